@@ -1,0 +1,147 @@
+-- The laws of demand 3, on bytes.
+-- Assumes nothing.
+use mathlib.Core.Path.{_≡_, refl, sym, ap, _∙_, subst}
+use mathlib.Core.Bool.{Bool, true, false}
+use mathlib.Core.Logic.{_↔_}
+use mathlib.Core.List.{List, [], _∷_}
+use mathlib.Core.Option.{Option, none, some}
+use Prim.Native.Nat.{ℕ, _≤_}
+use native.Mathlib.Omega.{arith}
+use lib.Dec.{leb}
+use Rattle.standard.specs.Identifier.{Three, Identifier, Tables, canonicalForm, withoutUnknown, maximalThree, minimalThree, size, subtags, Answer, done, refused, bounded, withThree, then, canonical, maximised, minimised, Good}
+use Rattle.standard.specs.Reading.{Read, good, bad, read, print}
+use Rattle.standard.specs.Delivery.{Bytes, Made, result, refusal, form}
+use Rattle.standard.specs.Calls.{Operation, canonicalise, maximise, minimise, Call, AsAtFirst}
+use Rattle.standard.specs.Make.{operate, made, makeOf, make}
+use Rattle.standard.proofs.Operations.{bounded-done, done-eq, maximised-form, maximised-maximal, minimised-done, shrunk, Settled, canonical-settled, maximised-settled, minimised-settled}
+use Rattle.standard.proofs.Calls.{Lasting, calls}
+use Rattle.standard.proofs.Minimal.{fewest}
+use Rattle.standard.proofs.Round.{Printable, round}
+use Rattle.standard.proofs.Sound.{Raw, read-raw}
+use Rattle.standard.proofs.Closed.{ShapedTables, canon-printable, core-printable, strip-shaped, fill-shaped, shrink-shaped}
+
+refusal-not : {n p t s : ℕ} {r : Bytes} {P : Type 0} → refusal n p t ≡ result r s → P
+refusal-not e = let z : _≡_ {A = ℕ} 0 1 = cc in absurd (omega arith)
+
+pub result-eq : {r s : Bytes} {m n : ℕ} → result r m ≡ result s n → r ≡ s
+result-eq e = cc
+
+steps-eq : {r s : Bytes} {m n : ℕ} → result r m ≡ result s n → m ≡ n
+steps-eq e = cc
+
+module _ (T : Tables) (g : Good T) (s : ShapedTables T) where
+  settled-of : (o : Operation) (i c : Identifier) → operate T o i ≡ done c → Settled T g i c
+  unfolding operate
+  settled-of canonicalise i c e = canonical-settled T g i c e
+  settled-of maximise i c e = maximised-settled T g i c e
+  settled-of minimise i c e = minimised-settled T g i c e
+
+  maximised-printable : (i m : Identifier) → Raw i → maximised T i ≡ done m → Printable m
+  maximised-printable i m h e =
+      let f = maximised-form T g i m e in
+      let p = canon-printable T s i h in
+      subst Printable (f .2) (core-printable T s (canonicalForm T i) (f .0) p (fill-shaped T s (withoutUnknown ((canonicalForm T i) .core)) (f .0) (strip-shaped T s ((canonicalForm T i) .core) (p .core)) (f .1)))
+
+  pub printable-of : (o : Operation) (i c : Identifier) → Raw i → operate T o i ≡ done c → Printable c
+  unfolding operate canonical shrunk
+  printable-of canonicalise i c h e = subst Printable ((bounded-done (canonicalForm T i) c e) .0) (canon-printable T s i h)
+  printable-of maximise i c h e = maximised-printable i c h e
+  printable-of minimise i c h e =
+      let d = minimised-done T g i c e in
+      let p = maximised-printable i (d .0) h (d .1) in
+      subst Printable (d .2) (core-printable T s (d .0) (minimalThree T (d .0 .core)) p (shrink-shaped T s (d .0 .core) (p .core)))
+
+  -- a result is read back
+  pub read-back : (o : Operation) (i c : Identifier) → Raw i → operate T o i ≡ done c → read (print c) ≡ good c
+  unfolding canonical
+  read-back o i c h e =
+      let q = bounded-done (canonicalForm T c) c ((settled-of o i c e) .canonical) in
+      round c (printable-of o i c h e) (subst (λ (x : Identifier). leb (size x) 255 ≡ true) (q .0) (q .1))
+
+  pub record Result (o : Operation) (x r : Bytes) (w : ℕ) : Type 0 where
+    pub input : Identifier
+    pub output : Identifier
+    pub reads : read x ≡ good input
+    pub does : operate T o input ≡ done output
+    pub prints : print output ≡ r
+    pub stepless : w ≡ 0
+    pub back : read r ≡ good output
+
+  pub result-of : (o : Operation) (x r : Bytes) (w : ℕ) → make T o x ≡ result r w → Result o x r w
+  unfolding make makeOf made
+  result-of o x r w e = go (read x) refl e
+    where
+      done-of : (i : Identifier) → read x ≡ good i → (a : Answer) → operate T o i ≡ a → made a ≡ result r w → Result o x r w
+      done-of i q (refused n) f p = refusal-not p
+      done-of i q (done c) f p =
+          record { input = i; output = c; reads = q; does = f; prints = result-eq p; stepless = sym (steps-eq p); back = subst (λ (y : Bytes). read y ≡ good c) (result-eq p) (read-back o i c (read-raw x i q) f) }
+
+      go : (a : Read) → read x ≡ a → makeOf T o a ≡ result r w → Result o x r w
+      go (bad n p) q f = refusal-not f
+      go (good i) q f = done-of i q (operate T o i) refl f
+
+  pub lasting : (o : Operation) (x r : Bytes) (w : ℕ) → make T o x ≡ result r w → Lasting (make T) x r w
+  unfolding make makeOf made operate
+  lasting o x r w e =
+      let d = result-of o x r w e in
+      let t = settled-of o (d .input) (d .output) (d .does) in
+      record {
+        stepless = d .stepless;
+        canonical = rw (d .back, t .canonical, d .prints);
+        maximal = rw (d .back, d .reads, t .maximised);
+        minimal = rw (d .back, d .reads, t .minimised);
+      }
+
+  -- Any list of calls.
+  pub demand-calls : (x : Bytes) (cs : List Call) (out : Bytes) → AsAtFirst (make T) x cs out
+  demand-calls x cs out = calls (make T) lasting x cs out
+
+  -- One minimised form exactly where one maximised form.
+  pub demand-forms : (x y m n q r : Bytes) → make T maximise x ≡ form m → make T maximise y ≡ form n → make T minimise x ≡ form q → make T minimise y ≡ form r
+      → (q ≡ r) ↔ (m ≡ n)
+  demand-forms x y m n q r a b c d = (forth, back)
+    where
+      forth : q ≡ r → m ≡ n
+      forth e = result-eq (sym a ∙ (sym ((lasting minimise x q 0 c) .maximal) ∙ (ap (make T maximise) e ∙ ((lasting minimise y r 0 d) .maximal ∙ b))))
+
+      back : m ≡ n → q ≡ r
+      back e = result-eq (sym c ∙ (sym ((lasting maximise x m 0 a) .minimal) ∙ (ap (make T minimise) e ∙ ((lasting maximise y n 0 b) .minimal ∙ d))))
+
+  -- A minimised form n and any canonical y with its language, variants, extensions and maximised form.
+  good-one : {i j : Identifier} → good i ≡ good j → i ≡ j
+  good-one e = cc
+
+  pub demand-fewest : (x n y m : Bytes) (a b : Identifier) → make T minimise x ≡ form n → make T canonicalise y ≡ form y
+      → make T maximise n ≡ form m → make T maximise y ≡ form m → read n ≡ good a → read y ≡ good b
+      → b .core .language ≡ a .core .language → b .variants ≡ a .variants → b .extensions ≡ a .extensions → b .private ≡ a .private
+      → subtags a ≤ subtags b
+  unfolding operate
+  demand-fewest x n y m a b e c f h ra rb l v w p =
+      let d = result-of minimise x n 0 e in
+      let k = result-of canonicalise y y 0 c in
+      let dm = result-of maximise n m 0 f in
+      let km = result-of maximise y m 0 h in
+      let same-a : d .output ≡ a = good-one (sym (d .back) ∙ ra) in
+      let same-b : k .output ≡ b = good-one (sym (k .back) ∙ rb) in
+      let in-b : k .input ≡ b = good-one (sym (k .reads) ∙ rb) in
+      let out : dm .output ≡ km .output = good-one (sym (dm .back) ∙ km .back) in
+      let na : dm .input ≡ a = good-one (sym (dm .reads) ∙ ra) in
+      let nb : km .input ≡ b = good-one (sym (km .reads) ∙ rb) in
+      let min-a : minimised T (d .input) ≡ done a = d .does ∙ ap done same-a in
+      let can-b : canonical T b ≡ done b = ap (canonical T) (sym in-b) ∙ (k .does ∙ ap done same-b) in
+      let max-b : maximised T b ≡ maximised T a = ap (maximised T) (sym nb) ∙ (km .does ∙ (ap done (sym out) ∙ (sym (dm .does) ∙ ap (maximised T) na))) in
+      fewest T g (d .input) a b min-a can-b l v w p max-b
+
+  -- what maximises minimises
+  pub minimises : (x m : Bytes) → make T maximise x ≡ form m → (q : Bytes) × (make T minimise x ≡ form q)
+  unfolding make makeOf made operate minimised then
+  minimises x m e =
+      let d = result-of maximise x m 0 e in
+      (print (withThree (d .output) (minimalThree T (d .output .core))), rw (d .reads, d .does))
+
+  pub demand-forms-2 : (x y m n : Bytes) → make T maximise x ≡ form m → make T maximise y ≡ form n
+      → (q : Bytes) × (r : Bytes) × (make T minimise x ≡ form q) × (make T minimise y ≡ form r) × ((q ≡ r) ↔ (m ≡ n))
+  demand-forms-2 x y m n a b =
+      let c = minimises x m a in
+      let d = minimises y n b in
+      (c .0, d .0, c .1, d .1, demand-forms x y m n (c .0) (d .0) a b (c .1) (d .1))

@@ -1,0 +1,10 @@
+pub mod Tag
+pub mod Grammar
+pub mod Identifier
+pub mod Reading
+pub mod Report
+pub mod Delivery
+pub mod Calls
+pub mod Chain
+pub mod Table
+pub mod Make
