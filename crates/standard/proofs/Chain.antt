@@ -11,12 +11,8 @@ use native.Mathlib.Nat.{suc-add}
 use lib.ListN.{length}
 use Rattle.standard.specs.Tag.{Tag, order, same, present}
 use Rattle.standard.specs.Identifier.{Three, three, und, Tables}
+use Rattle.standard.specs.Demand3.{Once}
 use Rattle.standard.specs.Chain.{Line, line, allButLast, shorter, parentOf, parent, isRoot, chain, reaches, GoodParents}
-
--- nothing twice
-unfoldable pub Once : {A : Type 0} → List A → Type 0
-Once [] = Unit {0}
-Once (l ∷ ls) = ¬ List·Memᴰ l ls × Once ls
 
 -- one step fewer to und than the child, or at und already
 module _ (T : Tables) where

@@ -8,20 +8,20 @@ use mathlib.Core.Option.{Option, none, some}
 use Prim.Native.Nat.{ℕ, _≤_}
 use native.Mathlib.Omega.{arith}
 use lib.Dec.{leb}
+use lib.ListN.{length}
+use Rattle.standard.specs.Tag.{label}
 use Rattle.standard.specs.Identifier.{Three, Identifier, Tables, canonicalForm, withoutUnknown, maximalThree, minimalThree, size, subtags, Answer, done, refused, bounded, withThree, then, canonical, maximised, minimised, Good}
-use Rattle.standard.specs.Reading.{Read, good, bad, read, print}
+use Rattle.standard.specs.Reading.{Read, good, bad, read, print, split}
 use Rattle.standard.specs.Delivery.{Bytes, Made, result, refusal, form}
 use Rattle.standard.specs.Calls.{Operation, canonicalise, maximise, minimise, Call, AsAtFirst}
 use Rattle.standard.specs.Make.{operate, made, makeOf, make}
 use Rattle.standard.proofs.Operations.{bounded-done, done-eq, maximised-form, maximised-maximal, minimised-done, shrunk, Settled, canonical-settled, maximised-settled, minimised-settled}
+use Rattle.standard.proofs.Numbers.{refusal-not}
 use Rattle.standard.proofs.Calls.{Lasting, calls}
 use Rattle.standard.proofs.Minimal.{fewest}
-use Rattle.standard.proofs.Round.{Printable, round}
+use Rattle.standard.proofs.Round.{Printable, round, split-count, split-label}
 use Rattle.standard.proofs.Sound.{Raw, read-raw}
 use Rattle.standard.proofs.Closed.{ShapedTables, canon-printable, core-printable, strip-shaped, fill-shaped, shrink-shaped}
-
-refusal-not : {n p t s : ℕ} {r : Bytes} {P : Type 0} → refusal n p t ≡ result r s → P
-refusal-not e = let z : _≡_ {A = ℕ} 0 1 = cc in absurd (omega arith)
 
 pub result-eq : {r s : Bytes} {m n : ℕ} → result r m ≡ result s n → r ≡ s
 result-eq e = cc
@@ -107,30 +107,54 @@ module _ (T : Tables) (g : Good T) (s : ShapedTables T) where
       back : m ≡ n → q ≡ r
       back e = result-eq (sym c ∙ (sym ((lasting maximise x m 0 a) .minimal) ∙ (ap (make T minimise) e ∙ ((lasting maximise y n 0 b) .minimal ∙ d))))
 
-  -- A minimised form n and any canonical y with its language, variants, extensions and maximised form.
   good-one : {i j : Identifier} → good i ≡ good j → i ≡ j
   good-one e = cc
 
-  pub demand-fewest : (x n y m : Bytes) (a b : Identifier) → make T minimise x ≡ form n → make T canonicalise y ≡ form y
-      → make T maximise n ≡ form m → make T maximise y ≡ form m → read n ≡ good a → read y ≡ good b
-      → b .core .language ≡ a .core .language → b .variants ≡ a .variants → b .extensions ≡ a .extensions → b .private ≡ a .private
-      → subtags a ≤ subtags b
+  -- what a canonical identifier's maximised form keeps of it
+  record Keeps (a m : Identifier) : Type 0 where
+    variants : a .variants ≡ m .variants
+    extensions : a .extensions ≡ m .extensions
+    private : a .private ≡ m .private
+
+  keeps : (a m : Identifier) → canonical T a ≡ done a → maximised T a ≡ done m → Keeps a m
+  unfolding canonical withThree
+  keeps a m c e =
+      let f = maximised-form T g a m e in
+      let b = (bounded-done (canonicalForm T a) a c) .0 in
+      let p : withThree a (f .0) ≡ m = ap (λ (y : Identifier). withThree y (f .0)) (sym b) ∙ f .2 in
+      record { variants = ap (λ (y : Identifier). y .variants) p; extensions = ap (λ (y : Identifier). y .extensions) p; private = ap (λ (y : Identifier). y .private) p }
+
+  -- the subtags of a result's bytes
+  counted : (o : Operation) (x r : Bytes) (d : Result o x r 0) → (length (split r) ≡ subtags (d .output)) × (label (split r) ≡ d .output .core .language)
+  counted o x r d =
+      let p = printable-of o (d .input) (d .output) (read-raw x (d .input) (d .reads)) (d .does) in
+      (ap (λ (y : Bytes). length (split y)) (sym (d .prints)) ∙ split-count (d .output) p, ap (λ (y : Bytes). label (split y)) (sym (d .prints)) ∙ split-label (d .output) p)
+
+  -- n, the minimised form of x, has the fewest subtags of all canonical y with its language and its maximised form
+  pub demand-fewest : (x n y m : Bytes) → make T minimise x ≡ form n → make T maximise x ≡ form m
+      → make T canonicalise y ≡ form y → make T maximise y ≡ form m → label (split y) ≡ label (split n)
+      → length (split n) ≤ length (split y)
   unfolding operate
-  demand-fewest x n y m a b e c f h ra rb l v w p =
+  demand-fewest x n y m e f c h l =
       let d = result-of minimise x n 0 e in
       let k = result-of canonicalise y y 0 c in
-      let dm = result-of maximise n m 0 f in
+      let dm = result-of maximise n m 0 ((lasting minimise x n 0 e) .maximal ∙ f) in
       let km = result-of maximise y m 0 h in
-      let same-a : d .output ≡ a = good-one (sym (d .back) ∙ ra) in
-      let same-b : k .output ≡ b = good-one (sym (k .back) ∙ rb) in
-      let in-b : k .input ≡ b = good-one (sym (k .reads) ∙ rb) in
-      let out : dm .output ≡ km .output = good-one (sym (dm .back) ∙ km .back) in
-      let na : dm .input ≡ a = good-one (sym (dm .reads) ∙ ra) in
-      let nb : km .input ≡ b = good-one (sym (km .reads) ∙ rb) in
-      let min-a : minimised T (d .input) ≡ done a = d .does ∙ ap done same-a in
-      let can-b : canonical T b ≡ done b = ap (canonical T) (sym in-b) ∙ (k .does ∙ ap done same-b) in
-      let max-b : maximised T b ≡ maximised T a = ap (maximised T) (sym nb) ∙ (km .does ∙ (ap done (sym out) ∙ (sym (dm .does) ∙ ap (maximised T) na))) in
-      fewest T g (d .input) a b min-a can-b l v w p max-b
+      let out : km .output ≡ dm .output = good-one (sym (km .back) ∙ dm .back) in
+      let na : dm .input ≡ d .output = good-one (sym (dm .reads) ∙ d .back) in
+      let nb : km .input ≡ k .output = good-one (sym (km .reads) ∙ k .back) in
+      let in-b : k .input ≡ k .output = good-one (sym (k .reads) ∙ k .back) in
+      let can-a : canonical T (d .output) ≡ done (d .output) = (settled-of minimise (d .input) (d .output) (d .does)) .canonical in
+      let can-b : canonical T (k .output) ≡ done (k .output) = ap (canonical T) (sym in-b) ∙ k .does in
+      let max-a : maximised T (d .output) ≡ done (dm .output) = ap (maximised T) (sym na) ∙ dm .does in
+      let max-b : maximised T (k .output) ≡ done (dm .output) = ap (maximised T) (sym nb) ∙ (km .does ∙ ap done out) in
+      let ka = keeps (d .output) (dm .output) can-a max-a in
+      let kb = keeps (k .output) (dm .output) can-b max-b in
+      let ca = counted minimise x n d in
+      let cb = counted canonicalise y y k in
+      let w = fewest T g (d .input) (d .output) (k .output) (d .does) can-b (sym (cb .1) ∙ (l ∙ ca .1))
+      (kb .variants ∙ sym (ka .variants)) (kb .extensions ∙ sym (ka .extensions)) (kb .private ∙ sym (ka .private)) (max-b ∙ sym max-a) in
+      omega (arith, w, ca .0, cb .0)
 
   -- what maximises minimises
   pub minimises : (x m : Bytes) → make T maximise x ≡ form m → (q : Bytes) × (make T minimise x ≡ form q)

@@ -13,9 +13,13 @@ pub mod Round
 pub mod Arranged
 pub mod Sound
 pub mod Closed
+pub mod Numbers
 pub mod Demand
 pub mod Lines
 pub mod Table
+pub mod Listing
 pub mod Theorem
 pub mod Forward
 pub mod Selection
+pub mod Cases
+pub mod Whole

@@ -13,11 +13,12 @@ use Rattle.standard.specs.Grammar.{title, upper, Kind, aScript, aRegion,
 use Rattle.standard.specs.Identifier.{Three, three, und, Identifier, Tables, Answer, done, canonical, canonicalForm}
 use Rattle.standard.specs.Reading.{print, split, identifierOf, privateFault, wrongSize, isX}
 use Rattle.standard.specs.Make.{identifier, printLine}
+use Rattle.standard.specs.Demand3.{Once}
 use Rattle.standard.specs.Chain.{Line, line, allButLast, shorter, parentOf, parent, isRoot, chain, GoodParents}
 use Rattle.standard.proofs.Tags.{All, Ascending}
 use Rattle.standard.proofs.Shapes.{Word}
 use Rattle.standard.proofs.Faults.{Variants}
-use Rattle.standard.proofs.Chain.{Once, EndsAtRoot, Ends, chain-ends}
+use Rattle.standard.proofs.Chain.{EndsAtRoot, Ends, chain-ends}
 use Rattle.standard.proofs.Round.{Shown, Shaped, Starts, Printable, unprint}
 use Rattle.standard.proofs.Sound.{shown-none}
 
@@ -27,7 +28,7 @@ pub record Plain (l : Line) : Type 0 where
   pub words : All Word (l .variants)
   pub ascend : Ascending itself (l .variants)
 
-plain-printable : (l : Line) → Plain l → Printable (identifier l)
+pub plain-printable : (l : Line) → Plain l → Printable (identifier l)
 unfolding identifier All Ascending Starts privateFault
 plain-printable l h = record {
   core = h .core;
@@ -93,7 +94,7 @@ module _ (T : Tables) (s : (k v : Three) → T .parents k ≡ some v → Shaped 
       go [] a b c = record { core = core (T .parents (l .core)) refl; variants = tt; words = tt; ascend = tt }
       go (v ∷ vs) a b c = record { core = h .core; variants = but-all (λ (u : Tag). kindOf u ≡ aVariant) (v ∷ vs) a; words = but-all Word (v ∷ vs) b; ascend = but-ascending (v ∷ vs) c }
 
-  chain-plain : (n : ℕ) (l : Line) → Plain l → All Plain (chain T n l)
+  pub chain-plain : (n : ℕ) (l : Line) → Plain l → All Plain (chain T n l)
   unfolding chain All
   chain-plain zero l h = (h, tt)
   chain-plain (suc n) l h = go (isRoot l) (chain-plain n (parent T l) (parent-plain l h))

@@ -8,15 +8,15 @@ use mathlib.Core.Option.{Option, none, some}
 use Prim.Native.Nat.{ℕ, suc, _+_, _≤_}
 use native.Mathlib.Omega.{arith}
 use lib.Dec.{leb}
-use lib.ListN.{length}
+use lib.ListN.{length, length-append}
 use Rattle.standard.specs.Tag.{Tag, itself, label}
 use Rattle.standard.specs.Grammar.{title, upper, every, Kind, aScript, aRegion, aVariant, aNone, kindOf, sizeOf, languageSize, variantKind, isVariant, isLanguage, isSingleton, grouped, flat, only}
-use Rattle.standard.specs.Identifier.{Three, three, Identifier, part, parts, size}
+use Rattle.standard.specs.Identifier.{Three, three, Identifier, part, parts, size, one, subtags}
 use Rattle.standard.specs.Reading.{optional, rest, tags, joined, print, split, firstOf, noBytes, tooLong, unclean, badTag, wrongSize, Stage, afterLanguage, start, restFault, partFault, alone, groupsFault, extensionFault, privateFault, isX, upTo, from, noLanguage, grammarFault, faultOf, ofKind, find, coreOf, afterFirst, identifierOf, Read, good, bad, readAs, read}
 use Rattle.standard.proofs.Tags.{All, Ascending}
 use Rattle.standard.proofs.Groups.{Lacks, Has, Headed, regroup, all-append, only-parts}
 use Rattle.standard.proofs.Bytes.{clash, bool-cases, word}
-use Rattle.standard.proofs.Split.{Printed, no-byte, byte, AllPrinted, no-tag, tag, split-joined, unclean-joined, length-joined, printed-append}
+use Rattle.standard.proofs.Split.{Printed, no-byte, byte, AllPrinted, no-tag, tag, split-joined, unclean-joined, length-joined, printed-append, printed-length}
 use Rattle.standard.proofs.Shapes.{known, Usual, kind-usual, language-usual, Word, printed-word, printed-language, printed-script, printed-region}
 use Rattle.standard.proofs.Faults.{Fresh, ascending-fresh, badTag-none, Variants, kind-variant, Maybe, rest-none, groups-none}
 
@@ -112,6 +112,11 @@ printed-shown k f s e p h = rw (h .stored) (go (h .token) (h .kind))
     go t (inl q) = rw q (rw e no-byte)
     go t (inr q) = p t q
 
+optional-one : (t : Tag) → length (optional t) ≡ one t
+unfolding optional one
+optional-one [] = refl
+optional-one (b ∷ bs) = refl
+
 module _ (i : Identifier) (h : Printable i) where
   abbrev S : Tag
   S = h .core .script .token
@@ -145,6 +150,18 @@ module _ (i : Identifier) (h : Printable i) where
   split-tokens : split (print i) ≡ tokens
   unfolding print tags
   split-tokens = split-joined language-printed all-printed
+
+  -- the subtags of the bytes, counted; and the first of them
+  pub split-count : length (split (print i)) ≡ subtags i
+  unfolding print tags rest subtags one
+  split-count =
+      rw (split-tokens)
+      (ap suc (sym (printed-length all-printed))
+      ∙ rw (length-append (rest i ++ flat (i .extensions)) (i .private), length-append (rest i) (flat (i .extensions)), length-append (optional (i .core .script)) (optional (i .core .region) ++ i .variants), length-append (optional (i .core .region)) (i .variants), optional-one (i .core .script), optional-one (i .core .region)) (omega arith))
+
+  pub split-label : label (split (print i)) ≡ i .core .language
+  unfolding label
+  split-label = rw split-tokens
 
   usual-optional : (k : Kind) → known k ≡ true → (t : Tag) → Maybe k t → All Usual (optional t)
   unfolding Maybe optional All
@@ -221,7 +238,7 @@ module _ (i : Identifier) (h : Printable i) where
   unfolding tooLong
   short-none e = rw (length-print, e, tooLong)
 
-  clean-none : unclean 0 (print i) ≡ none
+  pub clean-none : unclean 0 (print i) ≡ none
   unfolding print tags
   clean-none = unclean-joined language-printed all-printed 0
 

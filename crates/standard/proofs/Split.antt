@@ -56,3 +56,7 @@ length-joined p (q ∷ ps) = length-append p (45 ∷ joined (q ∷ ps)) ∙ omeg
 pub printed-append : {ps ts qs us : List Tag} → AllPrinted ps ts → AllPrinted qs us → AllPrinted (ps ++ qs) (ts ++ us)
 printed-append no-tag k = k
 printed-append (tag h r) k = tag h (printed-append r k)
+
+pub printed-length : {ps ts : List Tag} → AllPrinted ps ts → length ps ≡ length ts
+printed-length no-tag = refl
+printed-length (tag h r) = ap suc (printed-length r)

@@ -39,7 +39,7 @@ pieces-some s (b ∷ bs) = go (eqb b s) refl (pieces-some s bs)
     go true e p = record { first = []; more = pieces s bs; are = rw (e, pieces) }
     go false e p = record { first = b ∷ p .first; more = p .more; are = rw (e, pieces) (rw (p .are)) }
 
-pieces-append : (s : ℕ) (k v : List ℕ) → pieces s (k ++ (s ∷ v)) ≡ pieces s k ++ pieces s v
+pub pieces-append : (s : ℕ) (k v : List ℕ) → pieces s (k ++ (s ∷ v)) ≡ pieces s k ++ pieces s v
 unfolding pieces onto
 pieces-append s [] v = rw (T→true (eqb s s) (eqb-refl s), pieces)
 pieces-append s (b ∷ bs) v = go (eqb b s) refl (pieces-some s bs) (pieces-append s bs v)

@@ -16,12 +16,13 @@ pub record Line : Type 0 where
 abbrev pub line : Three → List Tag → Line
 line t vs = record { core = t; variants = vs }
 
+-- all variants but the last
 unfoldable pub allButLast : List Tag → List Tag
 allButLast [] = []
 allButLast (v ∷ []) = []
 allButLast (v ∷ w ∷ vs) = v ∷ allButLast (w ∷ vs)
 
--- the last subtag dropped; a language alone gives und
+-- 01, Chain of parents: the last subtag is dropped; a language alone has parent `und`.
 unfoldable pub shorter : Three → Three
 shorter t =
     elim (t .region) [
@@ -29,11 +30,12 @@ shorter t =
       | [] ↦ elim (t .script) [ _∷_ b bs ↦ three (t .language) [] [] | [] ↦ three und [] [] ]
     ]
 
+-- 01, Chain of parents: the value of the parent table if there is a row.
 unfoldable pub parentOf : Option Three → Three → Three
 parentOf none t = shorter t
 parentOf (some p) t = p
 
--- a key of the table has no variants
+-- the parent of a line; a key of the table has no variants
 unfoldable pub parent : Tables → Line → Line
 parent T l =
     elim (l .variants) [
@@ -41,15 +43,16 @@ parent T l =
       | _∷_ v vs ↦ line (l .core) (allButLast (v ∷ vs))
     ]
 
+-- `und` ends the chain
 unfoldable pub isRoot : Line → Bool
 isRoot l = same (l .core .language) und && not (present (l .core .script)) && not (present (l .core .region)) && elim (l .variants) [ [] ↦ true | _∷_ v vs ↦ false ]
 
--- the lines, while steps are left
+-- the lines, while steps are left: one fewer after each parent
 unfoldable pub chain : Tables → ℕ → Line → List Line
 chain T zero l = l ∷ []
 chain T (suc n) l = elim (isRoot l) [ true ↦ l ∷ [] | false ↦ l ∷ chain T n (parent T l) ]
 
--- the walk is at und within so many steps
+-- whether the walk is at `und` within so many steps
 unfoldable pub reaches : Tables → ℕ → Line → Bool
 reaches T zero l = isRoot l
 reaches T (suc n) l = elim (isRoot l) [ true ↦ true | false ↦ reaches T n (parent T l) ]

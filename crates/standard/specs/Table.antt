@@ -13,22 +13,23 @@ use Rattle.standard.specs.Identifier.{Three, three, und, Tables, without
 use Rattle.standard.specs.Reading.{optional, joined, Fault, fault, firstOf, ofKind}
 use Rattle.standard.specs.Chain.{line, reaches}
 
--- The pieces between separators.
+-- the pieces between separators
 unfoldable pub pieces : ℕ → List ℕ → List Tag
 pieces s [] = [] ∷ []
 pieces s (b ∷ bs) = elim (eqb b s) [ true ↦ [] ∷ pieces s bs | false ↦ onto b (pieces s bs) ]
 
--- what follows a prefix
+-- what follows a prefix, if it is one
 unfoldable pub after : List ℕ → List ℕ → Option (List ℕ)
 after [] xs = some xs
 after (p ∷ ps) [] = none
 after (p ∷ ps) (x ∷ xs) = elim (eqb p x) [ true ↦ after ps xs | false ↦ none ]
 
--- the first line that begins with the key and a tab, from there on
+-- 01, The three tables: the first line that begins with the key and a tab, from there on.
 unfoldable pub lookup : List Tag → List ℕ → Option (List ℕ)
 lookup [] k = none
 lookup (l ∷ ls) k = elim (after (k ++ (9 ∷ [])) l) [ some v ↦ some v | none ↦ lookup ls k ]
 
+-- the lines; what comes after the last 0A is one too
 unfoldable pub rows : List ℕ → List Tag
 rows x = pieces 10 x
 
@@ -50,28 +51,33 @@ locatedFrom at (l ∷ ls) k =
 unfoldable pub located : List ℕ → List ℕ → Found
 located x k = locatedFrom 0 (rows x) k
 
--- Subtags in canonical case.
+-- in lower case
 unfoldable pub lower : Tag → Tag
 lower t = map lowerByte t
 
+-- a subtag of this kind, in canonical case
 unfoldable pub inCanonicalCase : Kind → (Tag → Tag) → Tag → Bool
 inCanonicalCase k f t = ofKind k (kindOf (lower t)) && same (f (lower t)) t
 
+-- the first such subtag
 unfoldable pub findInCase : Kind → (Tag → Tag) → List Tag → Tag
 findInCase k f [] = []
 findInCase k f (t ∷ ts) = elim (inCanonicalCase k f t) [ true ↦ t | false ↦ findInCase k f ts ]
 
+-- language, script and region of subtags parted by `-`
 unfoldable pub threeOf : List Tag → Three
 threeOf [] = three [] [] []
 threeOf (l ∷ ts) = three l (findInCase aScript title ts) (findInCase aRegion upper ts)
 
+-- what a key or a value says
 unfoldable pub parse : List ℕ → Three
 parse x = threeOf (pieces 45 x)
 
+-- the three, printed: the key of a lookup
 unfoldable pub printThree : Three → List ℕ
 printThree t = joined (t .language ∷ (optional (t .script) ++ optional (t .region)))
 
--- language, perhaps script, perhaps region, and nothing else
+-- 01: language, perhaps script, perhaps region, in canonical case, and nothing else.
 unfoldable pub isThree : List ℕ → Bool
 isThree x = isLanguage ((parse x) .language) && same (printThree (parse x)) x
 
@@ -88,10 +94,12 @@ regionKey = 114 ∷ 101 ∷ 103 ∷ 105 ∷ 111 ∷ 110 ∷ 9 ∷ []
 abbrev pub variantKey : List ℕ
 variantKey = 118 ∷ 97 ∷ 114 ∷ 105 ∷ 97 ∷ 110 ∷ 116 ∷ 9 ∷ []
 
+-- the value of a row, read
 unfoldable pub parsed : Option (List ℕ) → Option Three
 parsed none = none
 parsed (some v) = some (parse v)
 
+-- What three tables say, by lookup. The key of an alias stands behind its kind and a tab.
 unfoldable pub tablesOf : List ℕ → List ℕ → List ℕ → Tables
 tablesOf A L P = record {
   languages = λ k. parsed (lookup (rows A) (languageKey ++ k));
@@ -102,16 +110,18 @@ tablesOf A L P = record {
   parents = λ t. parsed (lookup (rows P) (printThree t));
 }
 
--- 12: the shape of a row, by its fields.
+-- small letters and digits only
 unfoldable pub isWord : Tag → Bool
 isWord t = every (λ (b : ℕ). small b || digit b) t
 
 unfoldable pub isUnd : Three → Bool
 isUnd t = same (t .language) und
 
+-- a variant in lower case
 unfoldable pub isVariantTag : Tag → Bool
 isVariantTag t = ofKind aVariant (kindOf t) && isWord t
 
+-- 01, Aliases: kind, key, value; a language value is language, perhaps script, perhaps region; other values one subtag.
 unfoldable pub aliasShape : List Tag → Bool
 aliasShape [] = false
 aliasShape (a ∷ []) = false
@@ -123,12 +133,14 @@ aliasShape (kind ∷ key ∷ value ∷ []) =
     || (same (kind ++ (9 ∷ [])) variantKey && (isVariantTag key && isVariantTag value))))
 aliasShape (a ∷ b ∷ c ∷ d ∷ e) = false
 
+-- 01, Likely: key, and a value with all three, never `und`, `Zzzz` or `ZZ`.
 unfoldable pub likelyShape : List Tag → Bool
 likelyShape [] = false
 likelyShape (a ∷ []) = false
 likelyShape (key ∷ value ∷ []) = isThree key && (isThree value && (complete (parse value) && sameThree (withoutUnknown (parse value)) (parse value)))
 likelyShape (a ∷ b ∷ c ∷ d) = false
 
+-- 01, Parents: key as in likely but not `und` alone; value likewise, or `und`.
 unfoldable pub parentShape : List Tag → Bool
 parentShape [] = false
 parentShape (a ∷ []) = false
@@ -140,9 +152,11 @@ unfoldable pub isNone : {A : Type 0} → Option A → Bool
 isNone none = true
 isNone (some a) = false
 
+-- aliases replace none of the three
 unfoldable pub unaliased : Tables → Three → Bool
 unaliased T t = isNone (T .languages (t .language)) && (isNone (T .scripts (t .script)) && isNone (T .regions (t .region)))
 
+-- 14: no alias value whose subtag of the row's own kind is itself a key of that kind
 unfoldable pub aliasFree : Tables → List Tag → Bool
 aliasFree T [] = false
 aliasFree T (a ∷ []) = false
@@ -154,30 +168,33 @@ aliasFree T (kind ∷ key ∷ value ∷ []) =
     && (not (same (kind ++ (9 ∷ [])) variantKey) || isNone (T .variants value))))
 aliasFree T (a ∷ b ∷ c ∷ d ∷ e) = false
 
+-- 14: no likely value with a subtag that aliases replace
 unfoldable pub likelyFree : Tables → List Tag → Bool
 likelyFree T [] = false
 likelyFree T (a ∷ []) = false
 likelyFree T (key ∷ value ∷ []) = unaliased T (parse value)
 likelyFree T (a ∷ b ∷ c ∷ d) = false
 
+-- 14: no parent value with such a subtag, and from its key, as it stands, the walk is at `und` within 8 steps
 unfoldable pub parentFree : Tables → List Tag → Bool
 parentFree T [] = false
 parentFree T (a ∷ []) = false
 parentFree T (key ∷ value ∷ []) = unaliased T (parse value) && reaches T 8 (line (parse key) [])
 parentFree T (a ∷ b ∷ c ∷ d) = false
 
--- What rows are sorted by: kind-tab-key, or key.
+-- 01: rows ascend by kind-tab-key or by key; the key as the fields give it
 unfoldable pub keyOf : List Tag → List ℕ
 keyOf [] = []
 keyOf (a ∷ []) = a
 keyOf (key ∷ value ∷ []) = key
 keyOf (kind ∷ key ∷ value ∷ more) = kind ++ (9 ∷ key)
 
+-- strictly above the row before
 unfoldable pub above : Option (List ℕ) → List ℕ → Bool
 above none k = true
 above (some p) k = elim (order p k) [ Ordering·lt ↦ true | Ordering·eq ↦ false | Ordering·gt ↦ false ]
 
--- The rows in order, each with its place: 12 before 13. What comes after the last 0A is empty.
+-- 12 and 13, row by row, each with its place. What comes after the last 0A must be empty.
 unfoldable pub rowsFault : (List Tag → Bool) → Option (List ℕ) → ℕ → List Tag → Option Fault
 rowsFault shape last at [] = none
 rowsFault shape last at (l ∷ []) = elim l [ [] ↦ none | _∷_ b bs ↦ fault 12 at ]
@@ -193,6 +210,7 @@ clashFault free at [] = none
 clashFault free at (l ∷ []) = none
 clashFault free at (l ∷ m ∷ ls) = elim (free (pieces 9 l)) [ false ↦ fault 14 at | true ↦ clashFault free (at + suc (length l)) (m ∷ ls) ]
 
+-- 11: a table over 32,768 bytes
 unfoldable pub tooBig : List ℕ → Option Fault
 tooBig x = elim (leb (length x) 32768) [ true ↦ none | false ↦ fault 11 0 ]
 
@@ -201,17 +219,19 @@ pub record TableFault : Type 0 where
   pub fault : Fault
   pub table : ℕ
 
--- in a table, if it is used
+-- a fault in a table, if the operation uses it
 unfoldable pub inTable : Bool → ℕ → Option Fault → Option TableFault
 inTable false n o = none
 inTable true n none = none
 inTable true n (some f) = some (record { fault = f; table = n })
 
+-- the first in a fixed order
 unfoldable pub firstTable : Option TableFault → Option TableFault → Option TableFault
 firstTable none g = g
 firstTable (some f) g = some f
 
--- The check, over the aliases, and the likely and parent tables where they are used.
+-- 01, Numbers, Order: 11 for aliases, likely, parents; then 12 and 13 row by row, table by table; then 14 likewise;
+-- only over the tables that are used. The aliases always are.
 unfoldable pub check : Bool → Bool → List ℕ → List ℕ → List ℕ → Option TableFault
 check useL useP A L P =
     let T = tablesOf A L P in
