@@ -295,13 +295,18 @@ find-shown k f e (t ∷ ts) = go (inCanonicalCase k f t) refl (find-shown k f e 
     go true q r = stored-shown k f t q
     go false q r = r
 
-three-shaped : (x : List ℕ) → isThree x ≡ true → Shaped (parse x)
+pub three-shaped : (x : List ℕ) → isThree x ≡ true → Shaped (parse x)
 unfolding isThree parse threeOf title upper isLanguage languageSize sizeOf
 three-shaped x e = go (pieces 45 x) ((and-true (isLanguage ((threeOf (pieces 45 x)) .language)) (same (printThree (threeOf (pieces 45 x))) x) e) .0)
   where
     go : (ts : List Tag) → isLanguage ((threeOf ts) .language) ≡ true → Shaped (threeOf ts)
     go [] f = no f
     go (l ∷ ts) f = record { language = f; script = find-shown aScript title refl ts; region = find-shown aRegion upper refl ts }
+
+-- what has the shape of a three is that three, printed
+pub three-printed : (x : List ℕ) → isThree x ≡ true → printThree (parse x) ≡ x
+unfolding isThree
+three-printed x e = same-eq (printThree (parse x)) x ((and-true (isLanguage ((parse x) .language)) (same (printThree (parse x)) x) e) .1)
 
 parsed-some : (o : Option (List ℕ)) (w : Three) → parsed o ≡ some w → (v : List ℕ) × (o ≡ some v) × (parse v ≡ w)
 unfolding parsed
@@ -412,6 +417,18 @@ module _ (A L P : List ℕ) (p : Passed A L P) where
           let r : Likely (parse v) = record { kept = free-kept U (parse v) free; plain = sameThree-eq U (withoutUnknown (parse v)) (parse v) (j .1); all = j .0; shaped = three-shaped v (i .0) } in
           subst Likely q r
 
+  -- what a value that was found has, as bytes
+  pub language-value : (k v : List ℕ) → lookup (rows A) (languageKey ++ k) ≡ some v → isThree v ≡ true
+  language-value k v f = shape-language k v ((language-row k v f) .0)
+
+  pub likely-value : (k v : List ℕ) → lookup (rows L) k ≡ some v → (isThree v ≡ true) × (complete (parse v) ≡ true)
+  unfolding likelyShape
+  likely-value k v f =
+      let shape = row-two likelyShape likely-strict k v (row-test likelyShape (rows L) k v (p .likely-shapes) f) in
+      let h = and-true (isThree k) (isThree v && (complete (parse v) && sameThree (withoutUnknown (parse v)) (parse v))) shape in
+      let i = and-true (isThree v) (complete (parse v) && sameThree (withoutUnknown (parse v)) (parse v)) (h .1) in
+      (i .0, (and-true (complete (parse v)) (sameThree (withoutUnknown (parse v)) (parse v)) (i .1)) .0)
+
   pub good-tables : Good U
   unfolding tablesOf
   good-tables = record {
@@ -497,6 +514,12 @@ module _ (A L P : List ℕ) (p : Passed A L P) where
             within = reaches-on 7 k (subst (λ (o : Option Three). reaches U 7 (line (parentOf o k) []) ≡ true) (sym e) next);
             shaped = subst Shaped q (three-shaped v (i .1));
           }
+
+  pub parent-value : (k v : List ℕ) → lookup (rows P) k ≡ some v → isThree v ≡ true
+  unfolding parentShape
+  parent-value k v f =
+      let shape = row-two parentShape parent-strict k v (row-test parentShape (rows P) k v (p .parent-shapes) f) in
+      (and-true (not (same k und)) (isThree v) ((and-true (isThree k) (not (same k und) && isThree v) shape) .1)) .1
 
   pub good-parents : GoodParents U
   good-parents = record { within = λ k v e. (parents-row k v e) .within }

@@ -12,7 +12,7 @@ use Rattle.standard.specs.Reading.{Read, good, bad, read}
 use Rattle.standard.specs.Delivery.{Bytes}
 use Rattle.standard.specs.Calls.{Operation, canonicalise, maximise, minimise}
 use Rattle.standard.specs.Chain.{Line, line, isRoot, parent, chain, reaches}
-use Rattle.standard.specs.Table.{pieces, parse, rows, clashFault, tablesOf, unaliased, aliasFree, likelyFree, parentFree, inTable, check}
+use Rattle.standard.specs.Table.{pieces, parse, rows, rowsFault, clashFault, tooBig, firstTable, tablesOf, unaliased, aliasFree, likelyFree, parentFree, inTable, check}
 use Rattle.standard.specs.Make.{operate, made, makeOf, make, printLine, chainOf, listed, chainMade, chainFrom, afterCheck, canonicaliseMade, maximiseMade, minimiseMade, listMade, whole}
 use Rattle.standard.proofs.Table.{check-less}
 
@@ -146,3 +146,16 @@ module _ (A L P : Bytes) (pass : check true true A L P ≡ none) where
       go : (a : Read) → chainFrom (tablesOf A [] P) a ≡ chainFrom (tablesOf A L P) a
       go (good i) = ap (chainMade (tablesOf A [] P)) (same-canonical A [] P L P i) ∙ by (canonical (tablesOf A L P) i)
       go (bad n p) = refl
+
+-- A table that is not used is as good as an empty one: what a narrower check passes, the whole check passes.
+pub narrow-aliases : (A : Bytes) → check true true A [] [] ≡ check false false A [] []
+unfolding check inTable firstTable tooBig rows pieces rowsFault clashFault
+narrow-aliases A = refl
+
+pub narrow-likely : (A L : Bytes) → check true true A L [] ≡ check true false A L []
+unfolding check inTable firstTable tooBig rows pieces rowsFault clashFault
+narrow-likely A L = refl
+
+pub narrow-parents : (A P : Bytes) → check true true A [] P ≡ check false true A [] P
+unfolding check inTable firstTable tooBig rows pieces rowsFault clashFault
+narrow-parents A P = refl
