@@ -104,7 +104,7 @@ unfolding All
 printed-words [] h = no-tag
 printed-words (t ∷ ts) h = tag (printed-word t (h .0)) (printed-words ts (h .1))
 
-printed-shown : (k : Kind) (f : Tag → Tag) (s : Tag) → f [] ≡ [] → ((t : Tag) → kindOf t ≡ k → Printed (f t) t) → (h : Shown k f s) → Printed s (h .token)
+pub printed-shown : (k : Kind) (f : Tag → Tag) (s : Tag) → f [] ≡ [] → ((t : Tag) → kindOf t ≡ k → Printed (f t) t) → (h : Shown k f s) → Printed s (h .token)
 unfolding Maybe
 printed-shown k f s e p h = rw (h .stored) (go (h .token) (h .kind))
   where
