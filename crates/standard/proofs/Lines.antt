@@ -81,7 +81,7 @@ module _ {A B : Type 0} (f : A → B) (P : A → Type 0) (inj : (a b : A) → P 
   once-map (x ∷ xs) h o = ((λ m. o .0 (found x (h .0) xs (h .1) m)), once-map xs (h .1) (o .1))
 
 module _ (T : Tables) (s : (k v : Three) → T .parents k ≡ some v → Shaped v) where
-  parent-plain : (l : Line) → Plain l → Plain (parent T l)
+  pub parent-plain : (l : Line) → Plain l → Plain (parent T l)
   unfolding parent parentOf Variants All Ascending
   parent-plain l h = go (l .variants) (h .variants) (h .words) (h .ascend)
     where
@@ -103,7 +103,7 @@ module _ (T : Tables) (s : (k v : Three) → T .parents k ≡ some v → Shaped 
       go true k = (h, tt)
       go false k = (h, k)
 
-  print-injective : (a b : Line) → Plain a → Plain b → printLine a ≡ printLine b → a ≡ b
+  pub print-injective : (a b : Line) → Plain a → Plain b → printLine a ≡ printLine b → a ≡ b
   unfolding printLine identifier
   print-injective a b h k e =
       let q : identifier a ≡ identifier b = sym (unprint (identifier a) (plain-printable a h)) ∙ (ap (λ (x : List ℕ). identifierOf (split x)) e ∙ unprint (identifier b) (plain-printable b k)) in

@@ -52,7 +52,7 @@ unfolding present
 none-there [] e = refl
 none-there (b ∷ bs) e = clash {b = false} e refl
 
-root-printed : (l : Line) → isRoot l ≡ true → printLine l ≡ und
+pub root-printed : (l : Line) → isRoot l ≡ true → printLine l ≡ und
 unfolding isRoot printLine identifier print tags rest optional joined flat
 root-printed l e =
     let a = and-true _ _ e in

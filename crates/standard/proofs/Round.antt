@@ -118,13 +118,13 @@ optional-one [] = refl
 optional-one (b ∷ bs) = refl
 
 module _ (i : Identifier) (h : Printable i) where
-  abbrev S : Tag
+  abbrev pub S : Tag
   S = h .core .script .token
 
-  abbrev R : Tag
+  abbrev pub R : Tag
   R = h .core .region .token
 
-  abbrev rest′ : List Tag
+  abbrev pub rest′ : List Tag
   rest′ = optional S ++ (optional R ++ i .variants)
 
   abbrev before : List Tag
@@ -133,7 +133,7 @@ module _ (i : Identifier) (h : Printable i) where
   abbrev tokens : List Tag
   tokens = (before ++ flat (i .extensions)) ++ i .private
 
-  all-printed : AllPrinted ((rest i ++ flat (i .extensions)) ++ i .private) ((rest′ ++ flat (i .extensions)) ++ i .private)
+  pub all-printed : AllPrinted ((rest i ++ flat (i .extensions)) ++ i .private) ((rest′ ++ flat (i .extensions)) ++ i .private)
   unfolding rest title upper
   all-printed =
       printed-append
@@ -144,7 +144,7 @@ module _ (i : Identifier) (h : Printable i) where
       (printed-words (flat (i .extensions)) (all-flat Word (i .extensions) (all-impl Extension (All Word) (λ g e. e .words) (i .extensions) (h .extensions)))))
       (printed-words (i .private) (h .private .words))
 
-  language-printed : Printed (i .core .language) (i .core .language)
+  pub language-printed : Printed (i .core .language) (i .core .language)
   language-printed = printed-language (i .core .language) (h .core .language)
 
   split-tokens : split (print i) ≡ tokens
