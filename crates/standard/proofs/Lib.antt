@@ -23,3 +23,4 @@ pub mod Forward
 pub mod Selection
 pub mod Cases
 pub mod Whole
+pub mod Dashes
