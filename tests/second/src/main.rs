@@ -1,0 +1,135 @@
+//! The command: answers cases from standard input, or runs `keys DIR`,
+//! `inspect` or `examples`.
+
+use second::keys::or_dash;
+use second::*;
+use std::io::{self, BufRead, BufWriter, Read, Write};
+use std::process::ExitCode;
+
+fn main() -> ExitCode {
+    let arguments: Vec<String> = std::env::args().skip(1).collect();
+    let arguments: Vec<&str> = arguments.iter().map(String::as_str).collect();
+    let done = match arguments[..] {
+        [] => cases(),
+        ["keys", folder] => run_keys(folder),
+        ["inspect"] => run_inspect(),
+        ["examples"] => run_examples(),
+        _ => Err("usage: second [keys DIR | inspect | examples]".to_string()),
+    };
+    match done {
+        Ok(()) => ExitCode::SUCCESS,
+        Err(message) => {
+            eprintln!("{message}");
+            ExitCode::FAILURE
+        }
+    }
+}
+
+fn standard_input() -> Result<Vec<u8>, String> {
+    let mut input = Vec::new();
+    io::stdin().lock().read_to_end(&mut input).map_err(|error| error.to_string())?;
+    Ok(input)
+}
+
+fn print(output: &[u8]) -> Result<(), String> {
+    let mut stdout = io::stdout().lock();
+    stdout.write_all(output).and_then(|()| stdout.flush()).map_err(|error| error.to_string())
+}
+
+/// A file that can't be opened counts as zero bytes.
+fn run_keys(folder: &str) -> Result<(), String> {
+    let file = |name| std::fs::read(std::path::Path::new(folder).join(name)).unwrap_or_default();
+    print(&keys(&standard_input()?, &file("aliases.tsv"), &file("likely.tsv")))
+}
+
+fn run_inspect() -> Result<(), String> {
+    print(&inspect(&standard_input()?))
+}
+
+fn run_examples() -> Result<(), String> {
+    let results = examples::run();
+    for (name, passed) in &results {
+        println!("{}\t{name}", if *passed { "passed" } else { "FAILED" });
+    }
+    let failed = results.iter().filter(|(_, passed)| !passed).count();
+    println!("{} passed, {failed} failed", results.len() - failed);
+    if failed > 0 {
+        return Err("an example failed".to_string());
+    }
+    Ok(())
+}
+
+/// One case a line, one answer a line.
+fn cases() -> Result<(), String> {
+    let mut stdout = BufWriter::new(io::stdout().lock());
+    for (number, line) in io::stdin().lock().lines().enumerate() {
+        let line = line.map_err(|error| error.to_string())?;
+        let answer = case(&line).ok_or_else(|| format!("line {}: no case", number + 1))?;
+        writeln!(stdout, "{answer}").map_err(|error| error.to_string())?;
+    }
+    stdout.flush().map_err(|error| error.to_string())
+}
+
+/// The answer to a case, or nothing where the line isn't one.
+fn case(line: &str) -> Option<String> {
+    let fields: Vec<&str> = line.split('\t').collect();
+    let (&operation, fields) = fields.split_first()?;
+    match (operation, fields) {
+        ("read", [id]) => {
+            let report = read(&from_hex(id)?);
+            let text = |subtag: &[u8]| String::from_utf8_lossy(or_dash(subtag)).into_owned();
+            Some(format!(
+                "{}\t{}\t{}\t{}\t{}\t{}\t{}",
+                report.number,
+                report.place,
+                text(&report.language),
+                text(&report.script),
+                text(&report.region),
+                report.variants,
+                report.extensions
+            ))
+        }
+        ("lookup", [table, key]) => {
+            let (found, start, length) = lookup(&from_hex(table)?, &from_hex(key)?);
+            Some(format!("{}\t{start}\t{length}", u8::from(found)))
+        }
+        ("check", [aliases, likely, parents]) => {
+            let answer = check(&from_hex(aliases)?, &from_hex(likely)?, &from_hex(parents)?);
+            Some(numbers(answer))
+        }
+        ("canonicalise", [id, aliases, lent]) => {
+            let (id, aliases) = (from_hex(id)?, from_hex(aliases)?);
+            over(lent, |out| canonicalise(&id, &aliases, out))
+        }
+        ("maximise" | "minimise" | "chain", [id, aliases, table, lent]) => {
+            let (id, aliases, table) = (from_hex(id)?, from_hex(aliases)?, from_hex(table)?);
+            let call = match operation {
+                "maximise" => maximise,
+                "minimise" => minimise,
+                _ => chain,
+            };
+            over(lent, |out| call(&id, &aliases, &table, out))
+        }
+        _ => None,
+    }
+}
+
+/// Lends so many bytes 2E, and prints the answer and the output afterwards.
+fn over(lent: &str, call: impl Fn(&mut [u8]) -> Answer) -> Option<String> {
+    let mut out = vec![0x2E; lent.parse().ok()?];
+    let answer = call(&mut out);
+    let hex: String = out.iter().map(|byte| format!("{byte:02x}")).collect();
+    Some(format!("{}\t{hex}", numbers(answer)))
+}
+
+fn numbers(answer: Answer) -> String {
+    let Answer { number, table, place, length, steps } = answer;
+    format!("{number}\t{table}\t{place}\t{length}\t{steps}")
+}
+
+fn from_hex(text: &str) -> Option<Vec<u8>> {
+    let digits: Vec<u8> =
+        text.chars().map(|c| c.to_digit(16).map(|d| d as u8)).collect::<Option<_>>()?;
+    let pairs = digits.chunks_exact(2);
+    pairs.remainder().is_empty().then(|| pairs.map(|pair| pair[0] << 4 | pair[1]).collect())
+}

@@ -1,0 +1,135 @@
+//! The programs `keys` and `inspect`, and the command.
+
+use second::examples::{ALIASES, LIKELY};
+use second::*;
+use std::io::Write;
+use std::process::{Command, Stdio};
+
+#[test]
+fn lines_of_keys() {
+    let header = "asked\tnumber\tkept\n";
+    let run = |input: &[u8]| String::from_utf8(keys(input, ALIASES, LIKELY)).unwrap();
+    assert_eq!(run(b""), header);
+    assert_eq!(run(b"\n"), format!("{header}\t1\t-\n"));
+    assert_eq!(run(b"\nen\n\n"), format!("{header}\t1\t-\nen\t0\ten\n\t1\t-\n"));
+    assert_eq!(run(b"en\r\n"), format!("{header}-\t3\t-\n"));
+    assert_eq!(run(b"e\tn\nZH_tw"), format!("{header}-\t3\t-\nZH_tw\t0\tzh-TW\n"));
+    assert_eq!(run(b"\xFF"), format!("{header}-\t3\t-\n"));
+    assert_eq!(run("a".repeat(256).as_bytes()), format!("{header}-\t2\t-\n"));
+    let (long, dashes) = ("a".repeat(255), "-".repeat(255));
+    assert_eq!(
+        run(format!("{long}\n{dashes}").as_bytes()),
+        format!("{header}{long}\t4\t-\n{dashes}\t4\t-\n")
+    );
+    assert_eq!(run(b"root-US\nen-u\n"), format!("{header}root-US\t5\t-\nen-u\t7\t-\n"));
+}
+
+#[test]
+fn bad_tables_of_keys() {
+    let run = |aliases: &[u8], likely: &[u8]| {
+        String::from_utf8(keys(b"en\nde\n", aliases, likely)).unwrap()
+    };
+    let header = "asked\tnumber\tkept\n";
+    assert_eq!(run(b"", b""), format!("{header}en\t8\t-\nde\t8\t-\n"));
+    assert_eq!(run(b"x\n", b"y"), format!("{header}table\t12\t1\t0\n"));
+    let likely = b"en\ten-Latn-US\nde\tde-Latn-DE\n";
+    assert_eq!(run(b"", likely), format!("{header}table\t13\t2\t14\n"));
+    assert_eq!(run(b"", &[b'\n'; 32_769]), format!("{header}table\t11\t2\t0\n"));
+}
+
+#[test]
+fn lines_of_inspect() {
+    let header = "asked\tnumber\tplace\tlanguage\tscript\tregion\tvariants\textensions\n";
+    assert_eq!(inspect(b""), header.as_bytes());
+    let expected = format!(
+        "{header}iw_latn_il\t0\t0\tiw\tLatn\tIL\t0\t0\n\
+        \t1\t0\t-\t-\t-\t0\t0\n\
+        en US\t3\n\
+        en-US-Latn\t5\t6\t-\t-\t-\t0\t0\n\
+        en-1994-x-a\t0\t0\ten\t-\t-\t1\t1\n"
+    )
+    .replace("en US\t3", "-\t3\t2\t-\t-\t-\t0\t0");
+    let found = inspect(b"iw_latn_il\n\nen US\nen-US-Latn\nen-1994-x-a");
+    assert_eq!(String::from_utf8(found).unwrap(), expected);
+}
+
+fn command(arguments: &[&str], input: &[u8]) -> (Vec<u8>, bool) {
+    let mut child = Command::new(env!("CARGO_BIN_EXE_second"))
+        .args(arguments)
+        .stdin(Stdio::piped())
+        .stdout(Stdio::piped())
+        .stderr(Stdio::null())
+        .spawn()
+        .unwrap();
+    child.stdin.take().unwrap().write_all(input).unwrap();
+    let output = child.wait_with_output().unwrap();
+    (output.stdout, output.status.success())
+}
+
+fn hex(bytes: &[u8]) -> String {
+    bytes.iter().map(|byte| format!("{byte:02x}")).collect()
+}
+
+#[test]
+fn cases() {
+    let aliases = hex(ALIASES);
+    let likely = hex(LIKELY);
+    let parents = hex(examples::PARENTS);
+    for (case, answer) in [
+        (format!("read\t{}", hex(b"latn_us-x-a")), "0\t0\tund\tLatn\tUS\t0\t1".to_string()),
+        ("read\t".to_string(), "1\t0\t-\t-\t-\t0\t0".to_string()),
+        (format!("lookup\t{likely}\t{}", hex(b"en")), "1\t17\t10".to_string()),
+        ("lookup\t\t".to_string(), "0\t0\t0".to_string()),
+        (format!("check\t{aliases}\t{likely}\t{parents}"), "0\t0\t0\t0\t0".to_string()),
+        (format!("check\t\t\t{}", hex(b"x")), "12\t3\t0\t0\t0".to_string()),
+        (
+            format!("canonicalise\t{}\t{aliases}\t7", hex(b"IW_il")),
+            format!("0\t0\t0\t5\t0\t{}", hex(b"he-IL..")),
+        ),
+        (
+            format!("canonicalise\t{}\t{aliases}\t4", hex(b"IW_il")),
+            "10\t0\t0\t0\t0\t2e2e2e2e".to_string(),
+        ),
+        (
+            format!("maximise\t{}\t{aliases}\t{likely}\t0", hex(b"zh-TW")),
+            "10\t0\t0\t0\t0\t".to_string(),
+        ),
+        (
+            format!("minimise\t{}\t{aliases}\t{likely}\t5", hex(b"zh-Hant-TW")),
+            format!("0\t0\t0\t5\t0\t{}", hex(b"zh-TW")),
+        ),
+        (
+            format!("chain\t{}\t{aliases}\t{parents}\t20", hex(b"en-AU-u-ca-gregory")),
+            format!("0\t0\t0\t20\t3\t{}", hex(b"en-AU\nen-001\nen\nund\n")),
+        ),
+    ] {
+        let (printed, good) = command(&[], case.as_bytes());
+        assert!(good, "{case}");
+        assert_eq!(String::from_utf8(printed).unwrap(), format!("{answer}\n"), "{case}");
+    }
+    for wrong in ["read\t0", "read\tzz", "read", "sing\t00", "chain\t\t\t\t-1", "\n"] {
+        assert!(!command(&[], wrong.as_bytes()).1, "{wrong}");
+    }
+    assert_eq!(command(&[], b""), (vec![], true));
+}
+
+#[test]
+fn subcommands() {
+    let folder = std::env::temp_dir().join(format!("second-keys-{}", std::process::id()));
+    std::fs::create_dir_all(&folder).unwrap();
+    let name = folder.to_str().unwrap();
+    // Files that can't be opened count as zero bytes.
+    let (printed, good) = command(&["keys", name], b"iw_IL\nfr\n");
+    assert!(good);
+    assert_eq!(printed, b"asked\tnumber\tkept\niw_IL\t8\t-\nfr\t8\t-\n");
+    std::fs::write(folder.join("aliases.tsv"), ALIASES).unwrap();
+    std::fs::write(folder.join("likely.tsv"), LIKELY).unwrap();
+    let (printed, _) = command(&["keys", name], b"iw_IL\nfr\n");
+    assert_eq!(printed, b"asked\tnumber\tkept\niw_IL\t0\the\nfr\t8\t-\n");
+    std::fs::remove_dir_all(&folder).unwrap();
+
+    assert_eq!(command(&["inspect"], b"en\n").0, inspect(b"en\n"));
+    let (printed, good) = command(&["examples"], b"");
+    assert!(good && printed.ends_with(b" passed, 0 failed\n"));
+    assert!(!command(&["other"], b"").1);
+}
