@@ -1,0 +1,11 @@
+pub mod Bodies
+pub mod Walked
+pub mod Parting
+pub mod Choices
+pub mod Bits
+pub mod Sets
+pub mod Places
+pub mod Cutting
+pub mod Loop
+pub mod Stepping
+pub mod Outcomes

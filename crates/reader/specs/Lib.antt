@@ -1,0 +1,5 @@
+pub mod Cuts
+pub mod Parts
+pub mod Walk
+pub mod Marks
+pub mod Steps

@@ -1,0 +1,4 @@
+pub mod Tags
+pub mod Pieces
+pub mod Threes
+pub mod Judges

@@ -1,0 +1,7 @@
+pub mod Bytes
+pub mod Walk
+pub mod Judging
+pub mod Stores
+pub mod Orders
+pub mod Keys
+pub mod Shapes

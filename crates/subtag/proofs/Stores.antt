@@ -1,0 +1,40 @@
+-- Laws of runs of stores. Assumes nothing.
+use mathlib.Core.Path.{_≡_, refl, sym, ap, ap₂, _∙_}
+use mathlib.Core.List.{List, [], _∷_, _++_, map}
+use Prim.Native.Nat.{ℕ, suc, _+_, _≤_, _<_}
+use native.Mathlib.Nat.{add-zero}
+use native.Mathlib.Numerals.{add-one}
+use native.Mathlib.Omega.{arith}
+use lib.ListN.{length, getD, take, set, length-map, length-append}
+use lib.Seq.{sets, take-suc, take-all, length-take-le}
+
+pub sets-append : (l : List ℕ) (at : ℕ) (x y : List ℕ) → sets l at (x ++ y) ≡ sets (sets l at x) (at + length x) y
+sets-append l at [] y = rw add-zero
+sets-append l at (a ∷ x) y =
+    let e : suc at + length x ≡ at + suc (length x) = omega arith in
+    sets-append (set l at a) (suc at) x y ∙ ap (λ (k : ℕ). sets (sets (set l at a) (suc at) x) k y) e
+
+pub map-append : (f : ℕ → ℕ) (x y : List ℕ) → map f (x ++ y) ≡ map f x ++ map f y
+map-append f [] y = refl
+map-append f (a ∷ x) y = ap (_∷_ (f a)) (map-append f x y)
+
+pub store-next : (f : ℕ → ℕ) (l o : List ℕ) (at : ℕ) (x : List ℕ) (i b : ℕ) → o ≡ sets l at (map f (take i x)) → b ≡ f (getD x i 0) → i < length x
+    → set o (at + i) b ≡ sets l at (map f (take (i + 1) x))
+store-next f l o at x i b e d h =
+    let n : length (map f (take i x)) ≡ i = length-map (take i x) f ∙ length-take-le i x (omega arith) in
+    let m : map f (take (i + 1) x) ≡ map f (take i x) ++ (f (getD x i 0) ∷ []) = rw (add-one, take-suc x i 0) (map-append f (take i x) (getD x i 0 ∷ [])) in
+    ap₂ (λ (q : List ℕ) (c : ℕ). set q (at + i) c) e d
+    ∙ sym (ap (sets l at) m ∙ sets-append l at (map f (take i x)) (f (getD x i 0) ∷ []) ∙ ap (λ (k : ℕ). set (sets l at (map f (take i x))) (at + k) (f (getD x i 0))) n)
+
+pub store-all : (f : ℕ → ℕ) (l : List ℕ) (at : ℕ) (x : List ℕ) (i : ℕ) → length x ≤ i → sets l at (map f (take i x)) ≡ sets l at (map f x)
+store-all f l at x i h = ap (λ (y : List ℕ). sets l at (map f y)) (take-all i x h)
+
+-- one run of stores, and another behind it
+pub wrote-two : (o o₁ o₂ : List ℕ) (at p r : ℕ) (x y b : List ℕ) → b ≡ x ++ y → p ≡ at + length x → o₁ ≡ sets o at x → r ≡ p + length y → o₂ ≡ sets o₁ p y
+    → (r ≡ at + length b) × (o₂ ≡ sets o at b)
+wrote-two o o₁ o₂ at p r x y b e f g h k =
+    let n = ap length e ∙ length-append x y in
+    (omega arith, k ∙ ap₂ (λ (q : List ℕ) (i : ℕ). sets q i y) g f ∙ sym (sets-append o at x y) ∙ ap (sets o at) (sym e))
+
+pub mapped : (f : ℕ → ℕ) (at : ℕ) (x : List ℕ) → at + length x ≡ at + length (map f x)
+mapped f at x = ap (λ (n : ℕ). at + n) (sym (length-map x f))

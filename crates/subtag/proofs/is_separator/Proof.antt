@@ -1,0 +1,19 @@
+-- `subtag::is_separator` meets its contract. Assumes nothing.
+use mathlib.Core.Path.{_∙_}
+use Rattle.subtag.proofs.Bytes.{separator-as}
+use mathlib.Core.Path.{refl}
+use borrow.Author.Needs.{needs}
+use Rattle.subtag.proofs.is_separator.Statement.{statement}
+use Rattle.subtag.proofs.is_separator.Tie as tie
+
+class-of-requires : tie.Need-class-of-requires
+class-of-requires c κs = search needs
+
+separates-requires : tie.Need-separates-requires
+separates-requires c κs = search needs
+
+returns : tie.Need-returns
+returns c = c .separates .ensures ∙ separator-as _ (c .before .class-of .ensures) refl
+
+pub is-separator-spec : {M : Type 1} → statement M
+is-separator-spec = tie.close (tie.spec class-of-requires separates-requires returns)

@@ -1,0 +1,62 @@
+-- The class of a byte, by the standard's ranges.
+-- Assumes nothing.
+use mathlib.Core.Bool.{Bool, true, false, cond}
+use Prim.Native.Nat.{ℕ}
+use Rattle.standard.specs.Grammar.{small, capital, digit, separator, lowerByte}
+use Rattle.subtag.specs.declared.Class.{Class}
+use Rattle.subtag.specs.declared.Class.the-variants.{Small, Capital, Digit, Separator, Other}
+
+abbrev pub pickClass : Bool → Class → Class → Class
+pickClass true a b = a
+pickClass false a b = b
+
+unfoldable pub classOf : ℕ → Class
+classOf b = pickClass (digit b) Digit (pickClass (capital b) Capital (pickClass (small b) Small (pickClass (separator b) Separator Other)))
+
+-- what a class says
+abbrev pub isSmall : Class → Bool
+isSmall Small = true
+isSmall Capital = false
+isSmall Digit = false
+isSmall Separator = false
+isSmall Other = false
+
+abbrev pub isCapital : Class → Bool
+isCapital Small = false
+isCapital Capital = true
+isCapital Digit = false
+isCapital Separator = false
+isCapital Other = false
+
+abbrev pub isDigit : Class → Bool
+isDigit Small = false
+isDigit Capital = false
+isDigit Digit = true
+isDigit Separator = false
+isDigit Other = false
+
+abbrev pub isSeparator : Class → Bool
+isSeparator Small = false
+isSeparator Capital = false
+isSeparator Digit = false
+isSeparator Separator = true
+isSeparator Other = false
+
+-- 1 for a letter, and for a digit
+abbrev pub letterOf : Class → ℕ
+letterOf Small = 1
+letterOf Capital = 1
+letterOf Digit = 0
+letterOf Separator = 0
+letterOf Other = 0
+
+abbrev pub digitOf : Class → ℕ
+digitOf Small = 0
+digitOf Capital = 0
+digitOf Digit = 1
+digitOf Separator = 0
+digitOf Other = 0
+
+-- in lower case; a separator is '-'
+unfoldable pub tidyByte : ℕ → ℕ
+tidyByte b = cond (separator b) 45 (lowerByte b)

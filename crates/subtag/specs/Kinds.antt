@@ -1,0 +1,33 @@
+-- What a subtag can be, by what the code keeps of it. Each definition equals the standard's for every subtag
+-- (proofs/Shapes.antt).
+-- Assumes nothing.
+use mathlib.Core.Bool.{Bool, cond, _&&_}
+use Prim.Native.Nat.{ℕ}
+use lib.Dec.{eqb, leb}
+use Rattle.standard.specs.Grammar.{small, digit, Size, empty, one, two, three, four, several, long, languageSize, kind, Kind as StandardKind, aScript, aRegion, aVariant, aNone}
+use Rattle.subtag.specs.declared.Subtag.{Subtag}
+use Rattle.subtag.specs.declared.Kind.{Kind}
+use Rattle.subtag.specs.declared.Kind.the-variants.{Script, Region, Variant, Neither}
+
+unfoldable pub sizeFrom : ℕ → Size
+sizeFrom n =
+    cond (eqb n 0) empty (cond (eqb n 1) one (cond (eqb n 2) two (cond (eqb n 3) three (cond (eqb n 4) four (cond (leb n 8) several long)))))
+
+unfoldable pub languageFrom : Subtag → Bool
+languageFrom t = languageSize (sizeFrom (t .len)) && eqb (t .letters) (t .len)
+
+unfoldable pub kindFrom : Subtag → StandardKind
+kindFrom t = kind (sizeFrom (t .len)) (eqb (t .letters) (t .len)) (eqb (t .digits) (t .len)) (digit (t .first))
+
+unfoldable pub keywordFrom : Subtag → Bool
+keywordFrom t = eqb (t .len) 2 && eqb (t .letters) (cond (small (t .first)) 2 1)
+
+unfoldable pub fieldFrom : Subtag → Bool
+fieldFrom t = eqb (t .len) 2 && (small (t .first) && eqb (t .digits) 1)
+
+-- the standard's kind that an answer stands for
+abbrev pub kindIs : Kind → StandardKind
+kindIs Script = aScript
+kindIs Region = aRegion
+kindIs Variant = aVariant
+kindIs Neither = aNone

@@ -1,0 +1,372 @@
+// Bytes and subtags: the class of a byte, which one match decides and everything else goes by; letter case; the subtag at
+// the front of what is left of an identifier; the order of byte strings.
+ghost use mathlib.Core.Path.{_≡_};
+ghost use mathlib.Core.List.{map};
+ghost use Prim.Native.Nat.{ℕ, _+_, _≤_, _<_};
+ghost use lib.ListN.{length};
+ghost use lib.Seq.{sets};
+ghost use Rattle.standard.specs.Tag.{label, order, same as sameTag};
+ghost use Rattle.standard.specs.Grammar.{lowerByte, upperByte, separator, small, capital, digit as digitByte};
+ghost use Rattle.standard.specs.Reading.{split};
+ghost use Rattle.subtag.specs.Bytes.{classOf, isSeparator, letterOf, digitOf, tidyByte};
+ghost use Rattle.subtag.specs.Subtags.{firstByte, subtagOf, orderOf};
+ghost use Rattle.subtag.specs.Kinds.{languageFrom, kindFrom, kindIs, keywordFrom, fieldFrom};
+
+// What a byte can be.
+pub enum Class {
+    Small,
+    Capital,
+    Digit,
+    Separator,
+    Other,
+}
+
+pub fn class_of(b: u8) -> Class
+    ensures { λ r. ⌜ r ≡ classOf b ⌝ }
+{
+    match b {
+        48..=57 => Class::Digit,
+        65..=90 => Class::Capital,
+        97..=122 => Class::Small,
+        45 | 95 => Class::Separator,
+        _ => Class::Other,
+    }
+}
+
+pub fn is_separator(b: u8) -> bool
+    ensures { λ r. ⌜ r ≡ separator b ⌝ }
+{
+    separates(class_of(b))
+}
+
+pub fn lower(b: u8) -> u8
+    ensures { λ r. ⌜ r ≡ lowerByte b ⌝ }
+{
+    let k = class_of(b);
+    match k {
+        Class::Small => b,
+        Class::Capital => b + 32,
+        Class::Digit => b,
+        Class::Separator => b,
+        Class::Other => b,
+    }
+}
+
+pub fn upper(b: u8) -> u8
+    ensures { λ r. ⌜ r ≡ upperByte b ⌝ }
+{
+    let k = class_of(b);
+    match k {
+        Class::Small => b - 32,
+        Class::Capital => b,
+        Class::Digit => b,
+        Class::Separator => b,
+        Class::Other => b,
+    }
+}
+
+// In lower case; a separator as '-'.
+pub fn tidy(b: u8) -> u8
+    ensures { λ r. ⌜ r ≡ tidyByte b ⌝ }
+{
+    if is_separator(b) {
+        return 45;
+    }
+    lower(b)
+}
+
+// Does the class part two subtags?
+fn separates(k: Class) -> bool
+    ensures { λ r. ⌜ r ≡ isSeparator k ⌝ }
+{
+    match k {
+        Class::Small => false,
+        Class::Capital => false,
+        Class::Digit => false,
+        Class::Separator => true,
+        Class::Other => false,
+    }
+}
+
+// 1 for a letter.
+fn letter(k: Class) -> usize
+    ensures { λ r. ⌜ r ≡ letterOf k ⌝ }
+{
+    match k {
+        Class::Small => 1,
+        Class::Capital => 1,
+        Class::Digit => 0,
+        Class::Separator => 0,
+        Class::Other => 0,
+    }
+}
+
+// 1 for a digit.
+fn digit(k: Class) -> usize
+    ensures { λ r. ⌜ r ≡ digitOf k ⌝ }
+{
+    match k {
+        Class::Small => 0,
+        Class::Capital => 0,
+        Class::Digit => 1,
+        Class::Separator => 0,
+        Class::Other => 0,
+    }
+}
+
+fn wide(b: u8) -> u64
+    ensures { λ r. ⌜ (r ≡ b) × (r < 256) ⌝ }
+{
+    b as u64
+}
+
+// A subtag: its length; how many of its bytes are letters and digits; its first byte in lower case, 0 where it has none;
+// and its first eight bytes in lower case as a number, the first one highest, filled up with zeros. The order of subtags
+// is the order of these numbers.
+pub struct Subtag {
+    pub len: usize,
+    pub letters: usize,
+    pub digits: usize,
+    pub first: u8,
+    pub key: u64,
+}
+
+// The first byte of the subtag at the front of rest, or 0.
+fn first_of(rest: &[u8]) -> u8
+    ensures { λ r. ⌜ r ≡ firstByte (label (split (now (rest .entry)))) ⌝ }
+{
+    if rest.len() == 0 {
+        return 0;
+    }
+    let b = rest[0];
+    if is_separator(b) {
+        return 0;
+    }
+    lower(b)
+}
+
+// The subtag at the front of rest, up to the next separator or the end.
+pub fn judge(rest: &[u8]) -> Subtag
+    ensures { λ r. ⌜ r ≡ subtagOf (label (split (now (rest .entry)))) ⌝ }
+{
+    let first = first_of(rest);
+    let mut letters: usize = 0;
+    let mut digits: usize = 0;
+    let mut key: u64 = 0;
+    let mut weight: u64 = 72057594037927936;
+    let mut len: usize = 0;
+    while len < rest.len() {
+        let b = rest[len];
+        let k = class_of(b);
+        if separates(k) {
+            return Subtag {
+                len,
+                letters,
+                digits,
+                first,
+                key,
+            };
+        }
+        letters += letter(k);
+        digits += digit(k);
+        key += wide(lower(b)) * weight;
+        weight = weight / 256;
+        len += 1;
+    }
+    Subtag {
+        len,
+        letters,
+        digits,
+        first,
+        key,
+    }
+}
+
+// Writes src at the place at, in lower case and with the separator '-', and gives the next place.
+pub fn put_tidy(src: &[u8], out: &mut [u8], at: usize) -> usize
+    requires { ⌜ at + length (now src) ≤ length (now out) ⌝ }
+    ensures { λ r. ⌜ (r ≡ at + length (now (src .entry))) × (now (out .exit) ≡ sets (now (out .entry)) at (map tidyByte (now (src .entry)))) ⌝ }
+{
+    let mut i = 0;
+    while i < src.len() {
+        out[at + i] = tidy(src[i]);
+        i += 1;
+    }
+    at + i
+}
+
+// Are the two byte strings equal?
+pub fn same(a: &[u8], b: &[u8]) -> bool
+    ensures { λ r. ⌜ r ≡ sameTag (now (a .entry)) (now (b .entry)) ⌝ }
+{
+    let o = compare(a, b);
+    match o {
+        Order::Less => false,
+        Order::Equal => true,
+        Order::Greater => false,
+    }
+}
+
+// How two byte strings compare.
+pub enum Order {
+    Less,
+    Equal,
+    Greater,
+}
+
+// a against b, by unsigned bytes from the front.
+pub fn compare(a: &[u8], b: &[u8]) -> Order
+    ensures { λ r. ⌜ orderOf r ≡ order (now (a .entry)) (now (b .entry)) ⌝ }
+{
+    let mut i = 0;
+    while i < a.len() {
+        if b.len() <= i {
+            return Order::Greater;
+        }
+        if a[i] < b[i] {
+            return Order::Less;
+        }
+        if b[i] < a[i] {
+            return Order::Greater;
+        }
+        i += 1;
+    }
+    if i < b.len() {
+        return Order::Less;
+    }
+    Order::Equal
+}
+
+// What a subtag after the language can be; no two at once.
+pub enum Kind {
+    Script,
+    Region,
+    Variant,
+    Neither,
+}
+
+pub fn is_small(b: u8) -> bool
+    ensures { λ r. ⌜ r ≡ small b ⌝ }
+{
+    let k = class_of(b);
+    match k {
+        Class::Small => true,
+        Class::Capital => false,
+        Class::Digit => false,
+        Class::Separator => false,
+        Class::Other => false,
+    }
+}
+
+pub fn is_capital(b: u8) -> bool
+    ensures { λ r. ⌜ r ≡ capital b ⌝ }
+{
+    let k = class_of(b);
+    match k {
+        Class::Small => false,
+        Class::Capital => true,
+        Class::Digit => false,
+        Class::Separator => false,
+        Class::Other => false,
+    }
+}
+
+pub fn is_digit(b: u8) -> bool
+    ensures { λ r. ⌜ r ≡ digitByte b ⌝ }
+{
+    let k = class_of(b);
+    match k {
+        Class::Small => false,
+        Class::Capital => false,
+        Class::Digit => true,
+        Class::Separator => false,
+        Class::Other => false,
+    }
+}
+
+// A language: 2, 3 or 5 to 8 letters.
+pub fn is_language(t: Subtag) -> bool
+    ensures { λ r. ⌜ r ≡ languageFrom t ⌝ }
+{
+    let len = t.len;
+    if len < 2 {
+        return false;
+    }
+    if len == 4 {
+        return false;
+    }
+    if 8 < len {
+        return false;
+    }
+    t.letters == len
+}
+
+// A script is 4 letters, a region 2 letters or 3 digits, a variant 5 to 8 bytes or 4 that begin with a digit.
+pub fn kind_of(t: Subtag) -> Kind
+    ensures { λ r. ⌜ kindIs r ≡ kindFrom t ⌝ }
+{
+    let len = t.len;
+    let letters = t.letters;
+    let digits = t.digits;
+    if len == 2 {
+        if letters == 2 {
+            return Kind::Region;
+        }
+        return Kind::Neither;
+    }
+    if len == 3 {
+        if digits == 3 {
+            return Kind::Region;
+        }
+        return Kind::Neither;
+    }
+    if len == 4 {
+        return of_four(t);
+    }
+    if len < 5 {
+        return Kind::Neither;
+    }
+    if 8 < len {
+        return Kind::Neither;
+    }
+    Kind::Variant
+}
+
+fn of_four(t: Subtag) -> Kind
+    requires { ⌜ t .len ≡ 4 ⌝ }
+    ensures { λ r. ⌜ kindIs r ≡ kindFrom t ⌝ }
+{
+    if t.letters == 4 {
+        return Kind::Script;
+    }
+    if is_digit(t.first) {
+        return Kind::Variant;
+    }
+    Kind::Neither
+}
+
+// The key of a keyword: a letter or digit, then a letter.
+pub fn is_keyword(t: Subtag) -> bool
+    ensures { λ r. ⌜ r ≡ keywordFrom t ⌝ }
+{
+    if t.len != 2 {
+        return false;
+    }
+    if is_small(t.first) {
+        return t.letters == 2;
+    }
+    t.letters == 1
+}
+
+// The key of a field: a letter, then a digit.
+pub fn is_field(t: Subtag) -> bool
+    ensures { λ r. ⌜ r ≡ fieldFrom t ⌝ }
+{
+    if t.len != 2 {
+        return false;
+    }
+    if is_small(t.first) {
+        return t.digits == 1;
+    }
+    false
+}
