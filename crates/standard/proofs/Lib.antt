@@ -23,4 +23,5 @@ pub mod Forward
 pub mod Selection
 pub mod Cases
 pub mod Whole
+pub mod Bounds
 pub mod Dashes

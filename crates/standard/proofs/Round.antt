@@ -74,7 +74,7 @@ unfolding All flat
 all-flat P [] h = tt
 all-flat P (g ∷ gs) h = all-append P g (flat gs) (h .0) (all-flat P gs (h .1))
 
-parts-append : (xs ys : List Tag) → parts (xs ++ ys) ≡ parts xs + parts ys
+pub parts-append : (xs ys : List Tag) → parts (xs ++ ys) ≡ parts xs + parts ys
 unfolding parts
 parts-append [] ys = omega arith
 parts-append (x ∷ xs) ys = omega (arith, parts-append xs ys)
