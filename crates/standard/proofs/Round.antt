@@ -219,7 +219,7 @@ module _ (i : Identifier) (h : Printable i) where
   optional-size [] = refl
   optional-size (b ∷ bs) = omega arith
 
-  length-print : length (print i) ≡ size i
+  pub length-print : length (print i) ≡ size i
   unfolding print tags rest size
   length-print =
       length-joined (i .core .language) ((rest i ++ flat (i .extensions)) ++ i .private)
