@@ -81,7 +81,7 @@ module _ (A L P : Bytes) where
 
 -- Each operation depends on its own tables only.
 module _ (A L P L′ P′ : Bytes) where
-  same-canonical : (i : Identifier) → canonical (tablesOf A L P) i ≡ canonical (tablesOf A L′ P′) i
+  pub same-canonical : (i : Identifier) → canonical (tablesOf A L P) i ≡ canonical (tablesOf A L′ P′) i
   unfolding canonical canonicalForm aliased canonicalVariants tablesOf
   same-canonical i = refl
 
