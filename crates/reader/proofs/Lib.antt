@@ -9,3 +9,7 @@ pub mod Cutting
 pub mod Loop
 pub mod Stepping
 pub mod Outcomes
+pub mod Words
+pub mod Stages
+pub mod Accepted
+pub mod Reports

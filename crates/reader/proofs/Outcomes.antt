@@ -112,7 +112,7 @@ not-empty t e = ⊎-elim (λ h. clash (wrong-empty t (omega arith)) e) (λ h. h)
 not-long : (t : Tag) → wrongSize t ≡ false → length t ≤ 8
 not-long t e = ⊎-elim (λ h. h) (λ h. clash (wrong-long t h) e) (le-or-lt (length t) 8)
 
-fine : (ts : List Tag) → All Word ts → Lacks wrongSize ts → All Fine ts
+pub fine : (ts : List Tag) → All Word ts → Lacks wrongSize ts → All Fine ts
 unfolding All PlainTag
 fine [] a b = tt
 fine (t ∷ ts) a b = (record { plain = (not-empty t (b .0), not-long t (b .0), word-plain t (a .0)); low = a .0 }, fine ts (a .1) (b .1))

@@ -31,7 +31,7 @@ record Passed (st : State) (singles listed : List Tag) (back at : ℕ) (t : Tag)
   here : verdictFault (verdictOf (nextState st t)) singles listed back at t ≡ none
   on : walkFault (nextState st t) (singlesAfter (verdictOf (nextState st t)) t singles) (listedAfter (verdictOf (nextState st t)) t listed) at (at + suc (length t)) ts ≡ none
 
-first-none : (a b : Option Fault) → firstOf a b ≡ none → (a ≡ none) × (b ≡ none)
+pub first-none : (a b : Option Fault) → firstOf a b ≡ none → (a ≡ none) × (b ≡ none)
 unfolding firstOf
 first-none none b e = (refl, e)
 first-none (some f) b e = absurd (Option·some-ne-none f e)

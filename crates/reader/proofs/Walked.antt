@@ -511,7 +511,7 @@ law [] = law-nil
 law (t ∷ ts) = bool-cases (isSingleton t) (law-single t ts (law ts)) (law-more t ts (law ts))
 
 -- The whole.
-grouped-flat : (p : Tag → Bool) (ts : List Tag) → (grouped p ts) .before ++ flat ((grouped p ts) .groups) ≡ ts
+pub grouped-flat : (p : Tag → Bool) (ts : List Tag) → (grouped p ts) .before ++ flat ((grouped p ts) .groups) ≡ ts
 unfolding grouped withTag flat
 grouped-flat p [] = refl
 grouped-flat p (t ∷ ts) = go (p t) (grouped-flat p ts)

@@ -1,5 +1,6 @@
 // Reading an identifier: where its parts end, or the first refusal of numbers 1 to 7, in one walk over its subtags.
 mod marks;
+pub mod report;
 pub mod steps;
 
 use marks::Marking;

@@ -81,7 +81,8 @@ fn accepts(s: Stage, k: Kind) -> bool
             Kind::Neither => false,
         },
         Stage::Region => match k {
-            Kind::Script => false,
+            // four letters after a region are no variant either
+            Kind::Script => { false }
             Kind::Region => false,
             Kind::Variant => true,
             Kind::Neither => false,

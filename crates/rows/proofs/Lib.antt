@@ -2,3 +2,5 @@ pub mod Tags
 pub mod Pieces
 pub mod Threes
 pub mod Judges
+pub mod Passes
+pub mod Sorted

@@ -1,7 +1,7 @@
 -- Subtags in canonical case, by their bytes.
 -- Assumes nothing.
 use mathlib.Core.Path.{_≡_, refl, sym, ap, ap₂, _∙_}
-use mathlib.Core.Bool.{Bool, true, false, cond, not, _&&_}
+use mathlib.Core.Bool.{Bool, true, false, cond, not, _&&_, _||_}
 use mathlib.Core.List.{List, [], _∷_, map, head-eq-of-cons-eq, tail-eq-of-cons-eq}
 use mathlib.Core.Logic.{_⊎_, inl, inr, ⊎-elim}
 use Rattle.subtag.proofs.Walk.{le-or-lt}
@@ -12,7 +12,7 @@ use native.Mathlib.Omega.{arith}
 use lib.ListN.{length, getD, drop, drop-of-length-le, length-map}
 use lib.Seq.{drop-cons}
 use Rattle.standard.specs.Tag.{Tag, same}
-use Rattle.standard.specs.Grammar.{small, capital, digit, lowerByte, upperByte, every, title, upper, Size, empty, one, two, three, four, several, long, sizeOf, startsWithDigit, isLanguage, Kind, aScript, aRegion, aVariant, aNone, kind, kindOf}
+use Rattle.standard.specs.Grammar.{small, capital, digit, lowerByte, upperByte, every, title, upper, Size, empty, one, two, three, four, several, long, sizeOf, startsWithDigit, isLanguage, languageSize, Kind, aScript, aRegion, aVariant, aNone, kind, kindOf}
 use Rattle.standard.specs.Reading.{ofKind}
 use Rattle.standard.specs.Table.{lower, inCanonicalCase, isWord, isVariantTag}
 use Rattle.standard.proofs.Tags.{same-eq, same-refl}
@@ -399,3 +399,38 @@ module _ (t : Tag) where
       let s : startsWithDigit t ≡ true = digit-first t ∙ ap digit (first-byte (omega arith)) ∙ f in
       let l : every small t ≡ false = first-letter (digit-not-small (getD t 0 0) f) (omega arith) in
       variant-on (rw (size-from t, size-four (length t) e, s, l))
+
+-- What holds of letters and digits holds of the bytes of a subtag.
+every-weaker : (p q : ℕ → Bool) → ((b : ℕ) → p b ≡ true → q b ≡ true) → (t : Tag) → every p t ≡ true → every q t ≡ true
+unfolding every
+every-weaker p q f [] e = refl
+every-weaker p q f (b ∷ t) e = let h = and-true (p b) (every p t) e in rw (f b (h .0), every-weaker p q f t (h .1))
+
+pub script-length : (t : Tag) → isScript t ≡ true → length t ≡ 4
+script-length t e = script-four t e
+
+pub region-sizes : (t : Tag) → isRegion t ≡ true → (length t ≡ 2) ⊎ (length t ≡ 3)
+region-sizes t e = region-length t e
+
+module _ (q : ℕ → Bool) (s : (b : ℕ) → small b ≡ true → q b ≡ true) (c : (b : ℕ) → capital b ≡ true → q b ≡ true) (d : (b : ℕ) → digit b ≡ true → q b ≡ true) where
+  pub language-every : (t : Tag) → isLanguage t ≡ true → every q t ≡ true
+  unfolding isLanguage
+  language-every t e = every-weaker small q s t ((and-true (languageSize (sizeOf t)) (every small t) e) .1)
+
+  pub script-every : (t : Tag) → isScript t ≡ true → every q t ≡ true
+  unfolding every
+  script-every [] e = refl
+  script-every (b ∷ t) e =
+      let h = and-true (capital b) (every small t) (script-is (b ∷ t) (script-four (b ∷ t) e) ∙ e) in
+      rw (c b (h .0), every-weaker small q s t (h .1))
+
+  pub region-every : (t : Tag) → isRegion t ≡ true → every q t ≡ true
+  region-every t e =
+      ⊎-elim (λ n. every-weaker capital q c t (region-two t n ∙ e)) (λ n. every-weaker digit q d t (region-three t n ∙ e)) (region-length t e)
+
+  word-byte : (b : ℕ) → (small b || digit b) ≡ true → q b ≡ true
+  word-byte b e = bool-cases (small b) (s b) (λ f. d b (rw f at e))
+
+  pub variant-every : (t : Tag) → isVariantTag t ≡ true → every q t ≡ true
+  unfolding isVariantTag isWord
+  variant-every t e = every-weaker (λ (b : ℕ). small b || digit b) q word-byte t ((and-true (ofKind aVariant (kindOf t)) (isWord t) e) .1)

@@ -6,23 +6,24 @@ use mathlib.Core.Logic.{_⊎_, inl, inr, ⊎-elim}
 use mathlib.Core.List.{List, [], _∷_, _++_, tail-eq-of-cons-eq}
 use Prim.Native.Nat.{ℕ, _+_, _-_, _≤_, _<_, zero-le}
 use native.Mathlib.Omega.{arith}
-use lib.Dec.{ltb}
+use lib.Dec.{ltb, eqb}
 use lib.ListN.{length, take, drop, length-drop, drop-of-length-le}
 use lib.Seq.{take-all}
-use borrow.Author.Tests.{lt-ltb, le-ltb, ltb-true}
+use borrow.Author.Tests.{lt-ltb, le-ltb, ltb-true, ne-eqb, not-true}
 use Rattle.subtag.proofs.Walk.{le-or-lt}
 use Rattle.standard.specs.Tag.{Tag, same}
-use Rattle.standard.specs.Grammar.{isLanguage, title, upper, Kind, aScript, aRegion}
+use Rattle.standard.specs.Grammar.{small, capital, digit, every, isLanguage, title, upper, Kind, aScript, aRegion}
 use Rattle.standard.specs.Identifier.{Three as Subtags, three}
 use Rattle.standard.specs.Reading.{optional, joined}
 use Rattle.standard.specs.Table.{pieces, inCanonicalCase, findInCase, threeOf, parse, printThree, isThree}
 use Rattle.standard.proofs.Tags.{All, same-eq, same-refl}
 use Rattle.standard.proofs.Bytes.{bool-cases, clash, and-true}
 use Rattle.table.specs.Lines.{endOf}
-use Rattle.table.proofs.Lines.{ends}
+use Rattle.table.proofs.Lines.{ends, pieces-some}
 use Rattle.rows.specs.declared.Three.{Three}
 use Rattle.rows.specs.Shapes.{isScript, isRegion, between, others, scriptEnd, noMore, regionTail, ThreeAt}
-use Rattle.rows.proofs.Tags.{both-ways, script-not-region, script-size, region-size}
+use Rattle.subtag.proofs.Bytes.{small-in, capital-in, digit-in}
+use Rattle.rows.proofs.Tags.{both-ways, script-not-region, script-size, region-size, language-every, script-every, region-every}
 use Rattle.rows.proofs.Pieces.{Free, pieces-first, others-at, others-none, more-some, more-none, pieces-free, joined-pieces, pieces-joined}
 
 no : {P : Type 0} → false ≡ true → P
@@ -308,3 +309,93 @@ module _ (s : List ℕ) (e : ℕ) where
         and-true′ : (b : Bool) → (b && true) ≡ b
         and-true′ true = refl
         and-true′ false = refl
+
+-- The three subtags of a text that is such.
+pub record ThreeOk (t : Subtags) : Type 0 where
+  pub language : isLanguage (t .language) ≡ true
+  pub script : (t .script ≡ []) ⊎ (isScript (t .script) ≡ true)
+  pub region : (t .region ≡ []) ⊎ (isRegion (t .region) ≡ true)
+
+pub three-ok : (s : List ℕ) → isThree s ≡ true → ThreeOk (parse s)
+three-ok s e =
+    let p = pieces-some 45 s in
+    let q = parse-pieces s (p .first) (p .more) (p .are) in
+    let h = and-true (isLanguage (p .first)) (tail (p .more)) (sym (three-pieces s (p .first) (p .more) (p .are)) ∙ e) in
+    rw q (record { language = h .0; script = script-found (p .more); region = region-found (p .more) })
+
+-- a letter or digit is no separator
+apart : ℕ → Bool
+apart b = not (eqb b 45)
+
+free-every : (t : Tag) → every apart t ≡ true → Free 45 t
+unfolding every All apart
+free-every [] e = tt
+free-every (b ∷ t) e = let h = and-true (not (eqb b 45)) (every apart t) e in (not-true (eqb b 45) (h .0), free-every t (h .1))
+
+small-apart : (b : ℕ) → small b ≡ true → apart b ≡ true
+unfolding apart
+small-apart b e = let h = small-in b e in rw (ne-eqb b 45 (λ q. omega (arith, h .low)))
+
+capital-apart : (b : ℕ) → capital b ≡ true → apart b ≡ true
+unfolding apart
+capital-apart b e = let h = capital-in b e in rw (ne-eqb b 45 (λ q. omega (arith, h .low)))
+
+digit-apart : (b : ℕ) → digit b ≡ true → apart b ≡ true
+unfolding apart
+digit-apart b e = let h = digit-in b e in rw (ne-eqb b 45 (λ q. omega (arith, h .low)))
+
+optional-free : (t : Tag) → Free 45 t → All (Free 45) (optional t)
+unfolding optional All
+optional-free [] h = tt
+optional-free (b ∷ t) h = (h, tt)
+
+script-free : (t : Tag) → (t ≡ []) ⊎ (isScript t ≡ true) → Free 45 t
+unfolding All
+script-free t (inl e) = rw e tt
+script-free t (inr e) = free-every t (script-every apart small-apart capital-apart digit-apart t e)
+
+region-free : (t : Tag) → (t ≡ []) ⊎ (isRegion t ≡ true) → Free 45 t
+unfolding All
+region-free t (inl e) = rw e tt
+region-free t (inr e) = free-every t (region-every apart small-apart capital-apart digit-apart t e)
+
+-- the two are found again
+module _ (S R : Tag) where
+  found-script : (S ≡ []) ⊎ (isScript S ≡ true) → (R ≡ []) ⊎ (isRegion R ≡ true) → scriptOf (optional S ++ optional R) ≡ S
+  unfolding optional findInCase
+  found-script (inl a) (inl b) = rw (a, b)
+  found-script (inl a) (inr b) =
+      rw (a, region-some R b) (script-off R [] (bool-cases (isScript R) (λ c. clash b (script-not-region R c)) (λ c. c)))
+  found-script (inr a) b = ap (λ (ts : List Tag). scriptOf (ts ++ optional R)) (script-some S a) ∙ script-alone S (optional R) a
+
+  found-region : (S ≡ []) ⊎ (isScript S ≡ true) → (R ≡ []) ⊎ (isRegion R ≡ true) → regionOf (optional S ++ optional R) ≡ R
+  unfolding optional findInCase
+  found-region (inl a) (inl b) = rw (a, b)
+  found-region (inl a) (inr b) = rw a (ap regionOf (region-some R b) ∙ region-alone R [] b)
+  found-region (inr a) (inl b) = rw b (ap (λ (ts : List Tag). regionOf (ts ++ [])) (script-some S a) ∙ region-off S [] (script-not-region S a))
+  found-region (inr a) (inr b) =
+      ap₂ (λ (ts us : List Tag). regionOf (ts ++ us)) (script-some S a) (region-some R b) ∙ region-off S (R ∷ []) (script-not-region S a) ∙ region-alone R [] b
+
+-- such subtags, printed and parsed again
+module _ (t : Subtags) (o : ThreeOk t) where
+  abbrev tags : List Tag
+  tags = optional (t .script) ++ optional (t .region)
+
+  printed : pieces 45 (printThree t) ≡ t .language ∷ tags
+  unfolding printThree
+  printed =
+      pieces-joined (t .language) tags (free-every (t .language) (language-every apart small-apart capital-apart digit-apart (t .language) (o .language)))
+      (all-append (Free 45) (optional (t .script)) (optional (t .region)) (optional-free (t .script) (script-free (t .script) (o .script))) (optional-free (t .region) (region-free (t .region) (o .region))))
+
+  pub print-is-three : isThree (printThree t) ≡ true
+  print-is-three = three-pieces (printThree t) (t .language) tags printed ∙ rw (o .language, found-tail tags (t .script) (t .region) (o .script) (o .region) refl)
+
+  pub parse-print : parse (printThree t) ≡ t
+  parse-print =
+      parse-pieces (printThree t) (t .language) tags printed
+      ∙ ap₂ (three (t .language)) (found-script (t .script) (t .region) (o .script) (o .region)) (found-region (t .script) (t .region) (o .script) (o .region))
+
+-- a text is its subtags, printed
+pub three-text : (s : List ℕ) → isThree s ≡ true → printThree (parse s) ≡ s
+unfolding isThree
+three-text s e = same-eq (printThree (parse s)) s ((and-true (isLanguage ((parse s) .language)) (same (printThree (parse s)) s) e) .1)

@@ -8,11 +8,19 @@ use lib.ListN.{length, take, drop}
 use Rattle.standard.specs.Tag.{Tag, same, present}
 use Rattle.standard.specs.Grammar.{isLanguage}
 use Rattle.standard.specs.Identifier.{und, zzzz, zz, complete, withoutUnknown, sameThree}
-use Rattle.standard.specs.Table.{pieces, parse, isThree, isUnd, isVariantTag}
+use Rattle.standard.specs.Table.{pieces, parse, isThree, isUnd, isVariantTag, aliasShape, likelyShape, parentShape}
 use Rattle.rows.specs.declared.Fields.{Fields}
 use Rattle.rows.specs.declared.AliasKind.{AliasKind}
 use Rattle.rows.specs.declared.AliasKind.the-variants.{Language, Script, Region, Variant, Unknown}
+use Rattle.rows.specs.declared.Table.{Table}
+use Rattle.rows.specs.declared.Table.the-variants.{Aliases, Likely, Parents}
+use Rattle.rows.specs.declared.Rows.{Rows}
+use Rattle.rows.specs.declared.Rows.the-variants.{Good, Shape, Order}
 use Rattle.rows.specs.Shapes.{isScript, isRegion}
+use Rattle.table.specs.Lines.{endOf}
+use Rattle.standard.specs.Reading.{Fault, fault}
+use mathlib.Core.Option.{Option, none}
+use lib.Dec.{leb}
 
 -- exactly two
 unfoldable pub isTwo : List Tag → Bool
@@ -70,3 +78,24 @@ fieldsBy k [] = false
 fieldsBy k (a ∷ []) = false
 fieldsBy k (key ∷ value ∷ []) = shapeBy k key value
 fieldsBy k (a ∷ b ∷ c ∷ ts) = false
+
+-- the shape that a table's rows have
+unfoldable pub shapeOf : Table → List Tag → Bool
+shapeOf Aliases ts = aliasShape ts
+shapeOf Likely ts = likelyShape ts
+shapeOf Parents ts = parentShape ts
+
+-- where the key ends
+unfoldable pub secondTab : List ℕ → ℕ → ℕ
+secondTab l a = cond (leb (length l) a) a (endOf 9 l (a + 1))
+
+unfoldable pub keyEnd : Table → List ℕ → ℕ
+keyEnd Aliases l = secondTab l (endOf 9 l 0)
+keyEnd Likely l = endOf 9 l 0
+keyEnd Parents l = endOf 9 l 0
+
+-- the standard's fault that an answer stands for
+abbrev pub faultIs : Rows → Option Fault
+faultIs Good = none
+faultIs (Shape at) = fault 12 at
+faultIs (Order at) = fault 13 at

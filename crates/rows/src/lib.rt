@@ -5,9 +5,10 @@ ghost use mathlib.Core.Option.{none};
 ghost use Prim.Native.Nat.{_+_, _-_, _≤_, _<_};
 ghost use lib.ListN.{length, take, drop};
 ghost use Rattle.standard.specs.Grammar.{every as everyByte, isLanguage};
-ghost use Rattle.standard.specs.Table.{isVariantTag, pieces, aliasShape, likelyShape, parentShape};
+ghost use Rattle.standard.specs.Table.{isVariantTag, pieces, rows, rowsFault, aliasShape, likelyShape, parentShape};
+ghost use Rattle.table.specs.Search.{below};
 ghost use Rattle.rows.specs.Shapes.{allowed, isScript, isRegion, between, others, scriptEnd, regionTail, ThreeAt};
-ghost use Rattle.rows.specs.Rows.{FieldsAt, isKnown, knownParts, kindNamed, languageAlias, shapeBy, fieldsBy};
+ghost use Rattle.rows.specs.Rows.{FieldsAt, isKnown, knownParts, kindNamed, languageAlias, shapeBy, fieldsBy, shapeOf, secondTab, keyEnd, faultIs};
 
 // What the bytes of a subtag may be.
 pub enum Bytes {
@@ -279,7 +280,7 @@ pub enum AliasKind {
     Unknown,
 }
 
-fn kind_named(name: &[u8]) -> AliasKind
+pub fn kind_named(name: &[u8]) -> AliasKind
     ensures { λ r. ⌜ r ≡ kindNamed (now (name .entry)) ⌝ }
 {
     if subtag::same(name, b"language") {
@@ -366,4 +367,91 @@ pub fn alias_row(line: &[u8]) -> bool
     let start = a + 1;
     let kind = kind_named(&line[..a]);
     alias_fields(kind, &line[start..])
+}
+
+// The three tables.
+pub enum Table {
+    Aliases,
+    Likely,
+    Parents,
+}
+
+// Has the line the shape of a row of the table?
+pub fn row(line: &[u8], table: Table) -> bool
+    ensures { λ r. ⌜ r ≡ shapeOf table (pieces 9 (now (line .entry))) ⌝ }
+{
+    match table {
+        Table::Aliases => alias_row(line),
+        Table::Likely => likely_row(line),
+        Table::Parents => parent_row(line),
+    }
+}
+
+// Where the tab behind the one at a is, or the end.
+fn second_tab(line: &[u8], a: usize) -> usize
+    ensures { λ r. ⌜ r ≡ secondTab (now (line .entry)) a ⌝ }
+{
+    if line.len() <= a {
+        return a;
+    }
+    table::end_of(line, 9, a + 1)
+}
+
+// Where the key of a row ends: what rows are sorted by, kind-tab-key or key.
+fn key_end(line: &[u8], table: Table) -> usize
+    ensures { λ r. ⌜ r ≡ keyEnd table (now (line .entry)) ⌝ }
+{
+    let a = table::end_of(line, 9, 0);
+    match table {
+        Table::Aliases => second_tab(line, a),
+        Table::Likely => a,
+        Table::Parents => a,
+    }
+}
+
+// Does a come before b?
+fn rises(a: &[u8], b: &[u8]) -> bool
+    ensures { λ r. ⌜ r ≡ below (now (a .entry)) (now (b .entry)) ⌝ }
+{
+    let o = subtag::compare(a, b);
+    match o {
+        subtag::Order::Less => true,
+        subtag::Order::Equal => false,
+        subtag::Order::Greater => false,
+    }
+}
+
+// What is wrong with the rows, and where the first wrong one starts.
+pub enum Rows {
+    Good,
+    Shape(usize),
+    Order(usize),
+}
+
+// The first row of wrong shape, or not above the one before. The key of the row before is t[p..k].
+pub fn check_rows(t: &[u8], table: Table) -> Rows
+    ensures { λ r. ⌜ faultIs r ≡ rowsFault (shapeOf table) none 0 (rows (now (t .entry))) ⌝ }
+{
+    let n = t.len();
+    let mut i = 0;
+    let mut p = 0;
+    let mut k = 0;
+    while i < n {
+        let e = table::end_of(t, 10, i);
+        if n <= e {
+            return Rows::Shape(i);
+        }
+        if !row(&t[i..e], table) {
+            return Rows::Shape(i);
+        }
+        let d = key_end(&t[i..e], table);
+        let end = i + d;
+        if !rises(&t[p..k], &t[i..end]) {
+            return Rows::Order(i);
+        }
+        p = i;
+        k = end;
+        i = e + 1;
+    }
+    Rows::Good
 }

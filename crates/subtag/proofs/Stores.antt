@@ -5,8 +5,8 @@ use Prim.Native.Nat.{ℕ, suc, _+_, _≤_, _<_}
 use native.Mathlib.Nat.{add-zero}
 use native.Mathlib.Numerals.{add-one}
 use native.Mathlib.Omega.{arith}
-use lib.ListN.{length, getD, take, set, length-map, length-append}
-use lib.Seq.{sets, take-suc, take-all, length-take-le}
+use lib.ListN.{length, drop, getD, take, set, length-map, length-append}
+use lib.Seq.{sets, sets-eq, take-at, take-suc, take-all, length-take-le}
 
 pub sets-append : (l : List ℕ) (at : ℕ) (x y : List ℕ) → sets l at (x ++ y) ≡ sets (sets l at x) (at + length x) y
 sets-append l at [] y = rw add-zero
@@ -38,3 +38,20 @@ wrote-two o o₁ o₂ at p r x y b e f g h k =
 
 pub mapped : (f : ℕ → ℕ) (at : ℕ) (x : List ℕ) → at + length x ≡ at + length (map f x)
 mapped f at x = ap (λ (n : ℕ). at + n) (sym (length-map x f))
+
+-- without a change of the bytes
+pub plain-next : (l o : List ℕ) (at : ℕ) (x : List ℕ) (i b : ℕ) → o ≡ sets l at (take i x) → b ≡ getD x i 0 → i < length x → set o (at + i) b ≡ sets l at (take (i + 1) x)
+plain-next l o at x i b e d h =
+    let m = map-same in
+    store-next (λ (a : ℕ). a) l o at x i b (e ∙ ap (sets l at) (sym (m (take i x)))) d h ∙ ap (sets l at) (m (take (i + 1) x))
+  where
+    map-same : (y : List ℕ) → map (λ (a : ℕ). a) y ≡ y
+    map-same [] = refl
+    map-same (a ∷ y) = ap (_∷_ a) (map-same y)
+
+pub plain-all : (l : List ℕ) (at : ℕ) (x : List ℕ) (i : ℕ) → length x ≤ i → sets l at (take i x) ≡ sets l at x
+plain-all l at x i h = ap (sets l at) (take-all i x h)
+
+-- what was written at the front
+pub written : (l x : List ℕ) → length x ≤ length l → take (length x) (sets l 0 x) ≡ x
+written l x h = ap (take (length x)) (sets-eq x l 0 (let z : 0 + length x ≡ length x = omega arith in omega arith)) ∙ take-at x (drop (0 + length x) l) (length x) refl

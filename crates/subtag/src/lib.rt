@@ -182,6 +182,19 @@ pub fn judge(rest: &[u8]) -> Subtag
     }
 }
 
+// Writes src at the place at, and gives the next place.
+pub fn put(src: &[u8], out: &mut [u8], at: usize) -> usize
+    requires { ⌜ at + length (now src) ≤ length (now out) ⌝ }
+    ensures { λ r. ⌜ (r ≡ at + length (now (src .entry))) × (now (out .exit) ≡ sets (now (out .entry)) at (now (src .entry))) ⌝ }
+{
+    let mut i = 0;
+    while i < src.len() {
+        out[at + i] = src[i];
+        i += 1;
+    }
+    at + i
+}
+
 // Writes src at the place at, in lower case and with the separator '-', and gives the next place.
 pub fn put_tidy(src: &[u8], out: &mut [u8], at: usize) -> usize
     requires { ⌜ at + length (now src) ≤ length (now out) ⌝ }

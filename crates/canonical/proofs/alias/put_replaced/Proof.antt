@@ -1,0 +1,100 @@
+-- `canonical::alias::put_replaced` meets its contract. Assumes nothing.
+use native.Mathlib.Omega.{arith}
+use mathlib.Core.Path.{_≡_, refl, sym, ap, _∙_}
+use mathlib.Core.List.{List}
+use Prim.Native.Nat.{ℕ, _+_, _-_, _≤_}
+use lib.ListN.{length, take, drop}
+use lib.Seq.{sets}
+use Rattle.standard.specs.Table.{lookup, rows}
+use Rattle.canonical.specs.Alias.{replacedBy}
+use Rattle.canonical.proofs.Keyed as keys
+use borrow.Author.Needs.{needs}
+use Rattle.canonical.proofs.alias.put_replaced.Statement.{statement}
+use Rattle.canonical.proofs.alias.put_replaced.Tie as tie
+use Rattle.canonical.proofs.alias.put_replaced.Reads as reads
+use Rattle.canonical.proofs.alias.put_replaced.Lts as lts
+use Rattle.canonical.proofs.alias.put.Reads as put-reads
+
+-- src/alias.rt:70:9
+lookup-sorted-requires : tie.Need-lookup-sorted-requires
+lookup-sorted-requires c κs = search needs
+
+-- src/alias.rt:72:9
+abbrev text : tie.After-lookup-sorted → List ℕ
+text c =
+    let a = c .before .before .before .before .before .args in
+    replacedBy (lookup (rows (a .aliases .now)) (a .key .now)) (drop (a .skip) (a .key .now))
+
+found : (c : tie.Then1) → c .before .lookup-sorted .result .now ≡ text (c .before)
+found c =
+    let f = c .before in
+    let sorted = f .before .before .before .before .before .pre .1 in
+    f .lookup-sorted .ensures .0 sorted ∙ keys.found-row _ _ _ (sym (f .lookup-sorted .ensures .1 sorted) ∙ c .if1 .taken)
+
+not-found : (c : tie.Else1) → let a = c .before .before .before .before .before .before .args in take (length (a .key .now) - a .skip) (drop (a .skip) (a .key .now)) ≡ text (c .before)
+not-found c =
+    let f = c .before in
+    let b = f .before .before .before .before .before in
+    keys.rest-of (b .args .key .now) (b .args .skip) ∙ keys.no-row _ _ _ (sym (f .lookup-sorted .ensures .1 (b .pre .1)) ∙ c .if1 .left)
+
+put-requires : tie.Need-put-requires
+put-requires c κs =
+    let v = found (c .before) in
+    omega (arith, ap length v)
+
+-- src/alias.rt:72:9
+same-length : tie.Need-same-length
+same-length c = search needs
+
+-- src/alias.rt:72:9
+returns : tie.Need-returns
+returns c =
+    let p = c .before .before in
+    let a = p .before .before .before .before .before .before .before .before .args in
+    let v = found (p .before .before) in
+    (p .put .ensures .0 ∙ ap (λ (x : List ℕ). a .at + length x) v, p .put .ensures .1 ∙ ap (sets (a .out .now) (a .at)) v)
+
+-- src/alias.rt:74:9
+sub-put : tie.Need-sub-put
+sub-put c = search needs
+
+-- src/alias.rt:74:9
+part-put-start : tie.Need-part-put-start
+part-put-start c = search needs
+
+-- src/alias.rt:74:9
+part-put-end : tie.Need-part-put-end
+part-put-end c = search needs
+
+-- src/alias.rt:74:5
+put-requires-2 : tie.Need-put-requires-2
+put-requires-2 c κs =
+    let v = not-found (c .before .before) in
+    omega (arith, ap length v)
+
+-- src/alias.rt:65:1
+same-length-2 : tie.Need-same-length-2
+same-length-2 c = search needs
+
+-- src/alias.rt:65:1
+returns-2 : tie.Need-returns-2
+returns-2 c =
+    let p = c .before .before in
+    let a = p .before .before .before .before .before .before .before .before .before .args in
+    let v = not-found (p .before .before .before) in
+    (p .put2 .ensures .0 ∙ ap (λ (x : List ℕ). a .at + length x) v, p .put2 .ensures .1 ∙ ap (sets (a .out .now) (a .at)) v)
+
+pub put-replaced-spec : {M : Type 1} → statement M
+put-replaced-spec =
+    tie.close
+    (tie.spec
+    lookup-sorted-requires
+    put-requires
+    same-length
+    returns
+    sub-put
+    part-put-start
+    part-put-end
+    put-requires-2
+    same-length-2
+    returns-2)

@@ -1,0 +1,18 @@
+-- `canonical::form::hyphen` meets its contract. Assumes nothing.
+use native.Mathlib.Omega.{arith}
+use Rattle.canonical.proofs.Counts as counts
+use Rattle.canonical.proofs.form.hyphen.Statement.{statement}
+use Rattle.canonical.proofs.form.hyphen.Tie as tie
+use Rattle.canonical.proofs.form.hyphen.Reads as reads
+use Rattle.canonical.proofs.form.hyphen.Lts as lts
+
+-- src/form.rt:49:9
+returns : tie.Need-returns
+returns c = (counts.hyphen-yes _ (c .if1 .taken), omega arith)
+
+-- src/form.rt:45:1
+returns-2 : tie.Need-returns-2
+returns-2 c = (counts.hyphen-no _ (c .if1 .left), omega arith)
+
+pub hyphen-spec : {M : Type 1} → statement M
+hyphen-spec = tie.close (tie.spec returns returns-2)

@@ -1,0 +1,42 @@
+-- `canonical::section::is_what` meets its contract. Assumes nothing.
+use mathlib.Core.Path.{_≡_, sym, ap, _∙_}
+use Rattle.canonical.specs.declared.section.What.{What}
+use Rattle.canonical.specs.Section.{testOf}
+use borrow.Author.Needs.{needs}
+use Rattle.canonical.proofs.section.is_what.Statement.{statement}
+use Rattle.canonical.proofs.section.is_what.Tie as tie
+use Rattle.canonical.proofs.section.is_what.Reads as reads
+use Rattle.canonical.proofs.section.is_what.Lts as lts
+use Rattle.canonical.proofs.section.is_variant.Reads as is-variant-reads
+use Rattle.subtag.proofs.is_field.Reads as is-field-reads
+
+-- src/section.rt:52:24
+enum-told : tie.Need-enum-told
+enum-told c = search needs
+
+-- src/section.rt:52:24
+is-field-requires : tie.Need-is-field-requires
+is-field-requires c κs = search needs
+
+-- src/section.rt:53:26
+enum-told-2 : tie.Need-enum-told-2
+enum-told-2 c = search needs
+
+-- src/section.rt:53:26
+is-variant-requires : tie.Need-is-variant-requires
+is-variant-requires c κs = search needs
+
+-- src/section.rt:48:1
+returns : tie.Need-returns
+unfolding testOf
+returns c = c .is-field .ensures ∙ ap (λ (w : What). testOf w (c .before .before .before .args .t)) (sym (c .before .enum-told .given .1))
+
+-- src/section.rt:48:1
+returns-2 : tie.Need-returns-2
+unfolding testOf
+returns-2 c = c .is-variant .ensures ∙ ap (λ (w : What). testOf w (c .before .before .before .args .t)) (sym (c .before .enum-told2 .given .1))
+
+pub is-what-spec : {M : Type 1} → statement M
+is-what-spec =
+    tie.close
+    (tie.spec enum-told is-field-requires enum-told-2 is-variant-requires returns returns-2)

@@ -1,0 +1,25 @@
+-- `canonical::three::script_start` meets its contract. Assumes nothing.
+use native.Mathlib.Omega.{arith}
+use mathlib.Core.Path.{sym, _∙_}
+use Rattle.canonical.proofs.Places as places
+use borrow.Author.Needs.{needs}
+use Rattle.canonical.proofs.three.script_start.Statement.{statement}
+use Rattle.canonical.proofs.three.script_start.Tie as tie
+use Rattle.canonical.proofs.three.script_start.Reads as reads
+use Rattle.canonical.proofs.three.script_start.Lts as lts
+use Rattle.canonical.proofs.three.after_separator.Reads as after-separator-reads
+
+-- src/three.rt:43:9
+returns : tie.Need-returns
+returns c = (sym (places.start-first _ _ (c .if1 .taken)), omega arith)
+
+-- src/three.rt:45:5
+after-separator-requires : tie.Need-after-separator-requires
+after-separator-requires c κs = search needs
+
+-- src/three.rt:39:1
+returns-2 : tie.Need-returns-2
+returns-2 c = (c .after-separator .ensures .0 ∙ sym (places.start-later _ _ (c .before .if1 .left)), c .after-separator .ensures .1)
+
+pub script-start-spec : {M : Type 1} → statement M
+script-start-spec = tie.close (tie.spec returns after-separator-requires returns-2)

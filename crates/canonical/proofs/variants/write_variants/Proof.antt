@@ -1,0 +1,96 @@
+-- `canonical::variants::write_variants` meets its contract. Assumes nothing.
+use native.Mathlib.Omega.{arith}
+use mathlib.Core.Path.{_≡_, refl, sym, ap, _∙_}
+use mathlib.Core.List.{List, []}
+use Prim.Native.Nat.{ℕ, _+_, _≤_}
+use lib.ListN.{length, take}
+use lib.Seq.{sets, length-take-le}
+use Rattle.standard.specs.Table.{tablesOf}
+use Rattle.canonical.specs.Section.{tagsOf}
+use Rattle.canonical.proofs.Merged as merged
+use borrow.Author.Needs.{needs}
+use Rattle.canonical.proofs.variants.write_variants.Statement.{statement}
+use Rattle.canonical.proofs.variants.write_variants.Tie as tie
+use Rattle.canonical.proofs.variants.write_variants.Reads as reads
+use Rattle.canonical.proofs.variants.write_variants.Lts as lts
+use Rattle.canonical.proofs.sorted.write_sorted.Reads as write-sorted-reads
+use Rattle.canonical.proofs.variants.resolve_variants.Reads as resolve-variants-reads
+use Rattle.canonical.proofs.variants.room.Reads as room-reads
+
+-- src/variants.rt:48:9
+returns : tie.Need-returns
+returns c =
+    let b = c .before .before .before .before in
+    let e = merged.no-variants (b .args .aliases .now) (b .pre .3 .passes) (b .args .s .now) (c .if1 .taken) in
+    (omega (arith, ap length e), ap (sets (b .args .out .now) (b .args .at)) (sym e))
+
+-- src/variants.rt:50:23
+room-requires : tie.Need-room-requires
+room-requires c κs = search needs
+
+-- src/variants.rt:51:42
+slice-aggregate-resolve-variants : tie.Need-slice-aggregate-resolve-variants
+slice-aggregate-resolve-variants c = search needs
+
+-- src/variants.rt:51:9
+resolve-variants-requires : tie.Need-resolve-variants-requires
+resolve-variants-requires c κs =
+    let b = c .before .before .before .before .before .before in
+    (b .pre .0, b .pre .1, b .pre .3 .sorted, omega (arith, merged.resolved-fits (b .args .aliases .now) (b .pre .3 .passes) (b .args .s .now) (b .pre .0) (b .pre .2) (b .pre .4), c .before .room .ensures))
+
+-- src/variants.rt:52:18
+fits : (c : tie.After-resolve-variants) → (c .resolve-variants .result ≤ length (c .resolve-variants .last .1 .1 .0)) × (c .resolve-variants .result ≤ 459)
+fits c =
+    let b = c .before .before .before .before .before .before .before in
+    let n = merged.resolved-fits (b .args .aliases .now) (b .pre .3 .passes) (b .args .s .now) (b .pre .0) (b .pre .2) (b .pre .4) in
+    (omega (arith, c .resolve-variants .ensures .0, c .before .before .room .ensures), omega (arith, c .resolve-variants .ensures .0))
+
+-- the section of the replaced variants
+part : (c : tie.After-resolve-variants) → let b = c .before .before .before .before .before .before .before in
+    merged.Section (b .args .aliases .now) (b .pre .3 .passes) (tagsOf (b .args .s .now)) (take (c .resolve-variants .result) (c .resolve-variants .last .1 .1 .0))
+part c =
+    let b = c .before .before .before .before .before .before .before in
+    merged.scratch (b .args .aliases .now) (b .pre .3 .passes) (b .args .s .now) (b .pre .0) (b .pre .2) (b .pre .4) _ _ _ (c .resolve-variants .ensures .0) (c .resolve-variants .ensures .1) ((fits c) .0)
+
+array-share-prefix-scratch : tie.Need-array-share-prefix-scratch
+array-share-prefix-scratch c = (fits (c .before)) .0
+
+-- src/variants.rt:52:18
+slice-aggregate-write-sorted : tie.Need-slice-aggregate-write-sorted
+slice-aggregate-write-sorted c =
+    let r = c .before .before in
+    sym (length-take-le (r .resolve-variants .result) (r .resolve-variants .last .1 .1 .0) ((fits r) .0))
+
+-- src/variants.rt:52:5
+write-sorted-requires : tie.Need-write-sorted-requires
+write-sorted-requires c κs =
+    let r = c .before .before .before in
+    let n = length-take-le (r .resolve-variants .result) (r .resolve-variants .last .1 .1 .0) ((fits r) .0) in
+    (omega (arith, (fits r) .1), omega (arith, (fits r) .1), (part r) .begins, (part r) .plain)
+
+-- src/variants.rt:43:1
+same-length : tie.Need-same-length
+same-length c = search needs
+
+-- src/variants.rt:43:1
+returns-2 : tie.Need-returns-2
+returns-2 c =
+    let w = c .before .before in
+    let r = w .before .before .before .before in
+    let a = r .before .before .before .before .before .before .before .args in
+    let e = (part r) .sorted in
+    (w .write-sorted .ensures .0 ∙ ap (λ (x : List ℕ). a .at + length x) e, w .write-sorted .ensures .1 ∙ ap (sets (a .out .now) (a .at)) e)
+
+pub write-variants-spec : {M : Type 1} → statement M
+write-variants-spec =
+    tie.close
+    (tie.spec
+    returns
+    room-requires
+    slice-aggregate-resolve-variants
+    resolve-variants-requires
+    array-share-prefix-scratch
+    slice-aggregate-write-sorted
+    write-sorted-requires
+    same-length
+    returns-2)

@@ -1,0 +1,6 @@
+pub mod Section
+pub mod Alias
+pub mod Three
+pub mod Tested
+pub mod Variants
+pub mod Form

@@ -1,0 +1,12 @@
+-- A table of aliases that passed the check, and so ascends. Assumes nothing.
+use mathlib.Core.Path.{_≡_}
+use mathlib.Core.Bool.{false}
+use mathlib.Core.List.{List, []}
+use mathlib.Core.Option.{none}
+use Prim.Native.Nat.{ℕ}
+use Rattle.standard.specs.Table.{check}
+use Rattle.table.specs.Search.{Sorted}
+
+pub record Tested (A : List ℕ) : Type 0 where
+  pub passes : check false false A [] [] ≡ none
+  pub sorted : Sorted A

@@ -1,0 +1,117 @@
+// The groups of a section in ascending order of their heads, by selection: one mechanism for variants, attributes,
+// keywords and fields.
+use crate::section::group_end;
+use subtag::Subtag;
+use subtag::judge;
+use subtag::put_tidy;
+ghost use mathlib.Core.Path.{_≡_};
+ghost use Prim.Native.Nat.{_+_, _≤_, _<_};
+ghost use lib.ListN.{length};
+ghost use lib.Seq.{sets};
+ghost use Rattle.canonical.specs.Section.{tagsOf, Led, Plain, betterOf, noHead, pickFrom, endWithout, trimmedEnd, sortedBytes};
+
+// The head of a group: the place of its separator, the place behind it, and its number.
+pub struct Head {
+    pub at: usize,
+    pub next: usize,
+    pub key: u64,
+}
+
+// The better of best and the subtag t at the place at.
+fn better(best: Head, width: usize, last: u64, at: usize, t: Subtag) -> Head
+    requires { ⌜ at + t .len < 4096 ⌝ }
+    ensures { λ r. ⌜ r ≡ betterOf width last at t best ⌝ }
+{
+    let len = t.len;
+    let key = t.key;
+    if width < len {
+        return best;
+    }
+    if key <= last {
+        return best;
+    }
+    if best.key <= key {
+        return best;
+    }
+    Head {
+        at,
+        next: at + 1 + len,
+        key,
+    }
+}
+
+// The first of the least heads above last; a head is a subtag of at most width bytes.
+pub fn next_above(s: &[u8], width: usize, last: u64) -> Head
+    requires { ⌜ Led (now s) × (length (now s) < 4096) ⌝ }
+    ensures { λ r. ⌜ r ≡ pickFrom width last 0 (noHead (length (now (s .entry)))) (tagsOf (now (s .entry))) ⌝ }
+{
+    let n = s.len();
+    let mut best = Head {
+        at: n,
+        next: n,
+        key: 18446744073709551615,
+    };
+    let mut at: usize = 0;
+    while at < n {
+        let start = at + 1;
+        let t = judge(&s[start..]);
+        let len = t.len;
+        best = better(best, width, last, at, t);
+        at = start + len;
+    }
+    best
+}
+
+// The end of a group, whose head ends at next: with trim, before a type that is exactly `true`.
+pub fn trimmed_end(s: &[u8], trim: bool, next: usize, end: usize) -> usize
+    requires { ⌜ (next ≤ end) × (end ≤ length (now s)) × (length (now s) < 4000) ⌝ }
+    ensures { λ r. ⌜ r ≡ trimmedEnd trim (now (s .entry)) next end ⌝ }
+{
+    if !trim {
+        return end;
+    }
+    if end <= next {
+        return end;
+    }
+    let start = next + 1;
+    let t = judge(&s[start..]);
+    without(t, next, end)
+}
+
+fn without(t: Subtag, next: usize, end: usize) -> usize
+    requires { ⌜ next + t .len < 4096 ⌝ }
+    ensures { λ r. ⌜ r ≡ endWithout t next end ⌝ }
+{
+    let len = t.len;
+    let key = t.key;
+    if next + 1 + len != end {
+        return end;
+    }
+    if key != TRUE {
+        return end;
+    }
+    next
+}
+
+const TRUE: u64 = 8390898132396802048;
+
+// Writes the groups of s in ascending order of their heads, of several with one head the first.
+pub fn write_sorted(s: &[u8], width: usize, trim: bool, out: &mut [u8], at: usize) -> usize
+    requires { ⌜ (at + length (now s) ≤ length (now out)) × (length (now s) < 4000) × Led (now s) × Plain (tagsOf (now s)) ⌝ }
+    ensures { λ r. ⌜ (r ≡ at + length (sortedBytes width trim (now (s .entry)))) × (now (out .exit) ≡ sets (now (out .entry)) at (sortedBytes width trim (now (s .entry)))) ⌝ }
+{
+    let mut put = at;
+    let mut last: u64 = 0;
+    loop {
+        let h = next_above(s, width, last);
+        let from = h.at;
+        let next = h.next;
+        if s.len() <= from {
+            return put;
+        }
+        let end = group_end(s, width, next);
+        let stop = trimmed_end(s, trim, next, end);
+        put = put_tidy(&s[from..stop], out, put);
+        last = h.key;
+    }
+}

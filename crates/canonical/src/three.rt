@@ -1,0 +1,153 @@
+// Language, script and region in canonical case, through the aliases, at the front of the canonical form.
+use crate::alias::put;
+use crate::alias::put_replaced;
+use crate::alias::write_aliased;
+use reader::Parts;
+use reader::Start;
+use subtag::put_tidy;
+use table::end_of;
+ghost use mathlib.Core.Path.{_≡_};
+ghost use mathlib.Core.Option.{none};
+ghost use Prim.Native.Nat.{_+_, _-_, _≤_};
+ghost use lib.ListN.{length};
+ghost use lib.Seq.{sets};
+ghost use Rattle.standard.specs.Reading.{split, faultOf};
+ghost use Rattle.standard.specs.Table.{printThree};
+ghost use Rattle.reader.specs.Parts.{partsOf};
+ghost use Rattle.table.specs.Search.{Sorted};
+ghost use Rattle.canonical.specs.Tested.{Tested};
+ghost use Rattle.canonical.specs.Three.{endsOf, languageLookup, languageWord, canonicalThree, afterSeparator, scriptStart, scriptEnd, scriptBytes, regionBytes};
+
+// Where language, script and region end; an absent one ends where the one before it does.
+pub struct Ends {
+    pub language: usize,
+    pub script: usize,
+    pub region: usize,
+}
+
+// The start of the subtag whose part goes from at to end.
+fn after_separator(at: usize, end: usize) -> usize
+    ensures { λ r. ⌜ (r ≡ afterSeparator at end) × (r ≤ end) ⌝ }
+{
+    if at < end {
+        return at + 1;
+    }
+    end
+}
+
+// The start of the script, which may be the first subtag.
+fn script_start(language: usize, script: usize) -> usize
+    ensures { λ r. ⌜ (r ≡ scriptStart language script) × (r ≤ script) ⌝ }
+{
+    if language == 0 {
+        return 0;
+    }
+    after_separator(language, script)
+}
+
+// The end of the script in an alias's value of len bytes, whose language ends at e.
+fn script_end(e: usize, len: usize) -> usize
+    requires { ⌜ e ≤ 4096 ⌝ }
+    ensures { λ r. ⌜ r ≡ scriptEnd e len ⌝ }
+{
+    if e + 5 <= len {
+        return e + 5;
+    }
+    e
+}
+
+// Writes the script with its separator; w holds from `from` to `to` the one that the language's alias brought in.
+fn write_script(
+    id: &[u8],
+    language: usize,
+    script: usize,
+    w: &[u8],
+    from: usize,
+    to: usize,
+    aliases: &[u8],
+    out: &mut [u8],
+    at: usize,
+) -> usize
+    requires { ⌜ (language ≤ script) × (script ≤ length (now id)) × (script - scriptStart language script ≤ 8) × (from ≤ to) × (to ≤ length (now w)) × (to - afterSeparator from to ≤ 8) × Sorted (now aliases) × (at + length (scriptBytes (now aliases) (now id) language script (now w) from to) ≤ length (now out)) ⌝ }
+    ensures { λ r. ⌜ (r ≡ at + length (scriptBytes (now (aliases .entry)) (now (id .entry)) language script (now (w .entry)) from to)) × (now (out .exit) ≡ sets (now (out .entry)) at (scriptBytes (now (aliases .entry)) (now (id .entry)) language script (now (w .entry)) from to)) ⌝ }
+{
+    let g = script_start(language, script);
+    let f = after_separator(from, to);
+    write_aliased(&id[g..script], 1, &w[f..to], b"script\t", aliases, out, at)
+}
+
+// Writes the region likewise.
+fn write_region(
+    id: &[u8],
+    script: usize,
+    region: usize,
+    w: &[u8],
+    from: usize,
+    to: usize,
+    aliases: &[u8],
+    out: &mut [u8],
+    at: usize,
+) -> usize
+    requires { ⌜ (script ≤ region) × (region ≤ length (now id)) × (region - afterSeparator script region ≤ 8) × (from ≤ to) × (to ≤ length (now w)) × (to - afterSeparator from to ≤ 8) × Sorted (now aliases) × (at + length (regionBytes (now aliases) (now id) script region (now w) from to) ≤ length (now out)) ⌝ }
+    ensures { λ r. ⌜ (r ≡ at + length (regionBytes (now (aliases .entry)) (now (id .entry)) script region (now (w .entry)) from to)) × (now (out .exit) ≡ sets (now (out .entry)) at (regionBytes (now (aliases .entry)) (now (id .entry)) script region (now (w .entry)) from to)) ⌝ }
+{
+    let g = after_separator(script, region);
+    let f = after_separator(from, to);
+    write_aliased(&id[g..region], 8, &w[f..to], b"region\t", aliases, out, at)
+}
+
+// Writes the key of the language's lookup: the kind's name and the language, `und` where there is none.
+fn put_language(id: &[u8], p: Parts, out: &mut [u8]) -> usize
+    requires { ⌜ (faultOf (now id) ≡ none) × (p ≡ partsOf (split (now id))) × (32 ≤ length (now out)) ⌝ }
+    ensures { λ r. ⌜ (r ≡ length (languageLookup (now (id .entry)))) × (r ≤ 17) × (now (out .exit) ≡ sets (now (out .entry)) 0 (languageLookup (now (id .entry)))) ⌝ }
+{
+    let n = put(b"language\t", out, 0);
+    let start = p.start;
+    let e = p.language;
+    match start {
+        Start::Language => put_tidy(&id[..e], out, n),
+        Start::Script => put(b"und", out, n),
+        Start::Root => put(b"und", out, n),
+    }
+}
+
+// Writes the language's alias, or the language itself where it has none, and gives its length.
+fn resolve_language(id: &[u8], p: Parts, aliases: &[u8], word: &mut [u8]) -> usize
+    requires { ⌜ (faultOf (now id) ≡ none) × (p ≡ partsOf (split (now id))) × Tested (now aliases) × (length (now word) ≡ 32) ⌝ }
+    ensures { λ r. ⌜ (r ≡ length (languageWord (now (aliases .entry)) (now (id .entry)))) × (r ≤ 17) × (now (word .exit) ≡ sets (now (word .entry)) 0 (languageWord (now (aliases .entry)) (now (id .entry)))) ⌝ }
+{
+    let mut key = [0u8; 32];
+    let n = put_language(id, p, &mut key);
+    put_replaced(&key[..n], 9, aliases, word, 0)
+}
+
+// Writes the three, with w the language's alias or the language.
+fn write_from(id: &[u8], p: Parts, w: &[u8], aliases: &[u8], out: &mut [u8]) -> Ends
+    requires { ⌜ (faultOf (now id) ≡ none) × (p ≡ partsOf (split (now id))) × Tested (now aliases) × (now w ≡ languageWord (now aliases) (now id)) × (17 ≤ length (now out)) ⌝ }
+    ensures { λ r. ⌜ (r ≡ endsOf (canonicalThree (now (aliases .entry)) (now (id .entry)))) × (now (out .exit) ≡ sets (now (out .entry)) 0 (printThree (canonicalThree (now (aliases .entry)) (now (id .entry))))) ⌝ }
+{
+    let len = w.len();
+    let e = end_of(w, 45, 0);
+    let s = script_end(e, len);
+    let l = p.language;
+    let m = p.script;
+    let r = p.region;
+    let language = put(&w[..e], out, 0);
+    let script = write_script(id, l, m, w, e, s, aliases, out, language);
+    let region = write_region(id, m, r, w, s, len, aliases, out, script);
+    Ends {
+        language,
+        script,
+        region,
+    }
+}
+
+// Writes language, script and region of the canonical form at the front of out.
+pub fn write_three(id: &[u8], p: Parts, aliases: &[u8], out: &mut [u8]) -> Ends
+    requires { ⌜ (faultOf (now id) ≡ none) × (p ≡ partsOf (split (now id))) × Tested (now aliases) × (17 ≤ length (now out)) ⌝ }
+    ensures { λ r. ⌜ (r ≡ endsOf (canonicalThree (now (aliases .entry)) (now (id .entry)))) × (now (out .exit) ≡ sets (now (out .entry)) 0 (printThree (canonicalThree (now (aliases .entry)) (now (id .entry))))) ⌝ }
+{
+    let mut word = [0u8; 32];
+    let m = resolve_language(id, p, aliases, &mut word);
+    write_from(id, p, &word[..m], aliases, out)
+}

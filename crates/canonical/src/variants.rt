@@ -1,0 +1,53 @@
+// The variants of the canonical form: replaced one by one, then in ascending order, of equal ones the first.
+use crate::alias::write_aliased;
+use crate::sorted::write_sorted;
+use subtag::judge;
+ghost use mathlib.Core.Path.{_≡_};
+ghost use mathlib.Core.List.{[]};
+ghost use Prim.Native.Nat.{_+_, _≤_};
+ghost use lib.ListN.{length};
+ghost use lib.Seq.{sets};
+ghost use Rattle.standard.specs.Identifier.{canonicalVariants};
+ghost use Rattle.standard.specs.Table.{tablesOf};
+ghost use Rattle.table.specs.Search.{Sorted};
+ghost use Rattle.canonical.specs.Section.{tagsOf, led, Led, Plain};
+ghost use Rattle.canonical.specs.Tested.{Tested};
+ghost use Rattle.canonical.specs.Variants.{resolved, EachVariant};
+
+// Writes what the aliases make of each variant of the section s, with its separator.
+fn resolve_variants(s: &[u8], aliases: &[u8], out: &mut [u8]) -> usize
+    requires { ⌜ Led (now s) × Plain (tagsOf (now s)) × Sorted (now aliases) × (length (resolved (now aliases) (tagsOf (now s))) ≤ length (now out)) ⌝ }
+    ensures { λ r. ⌜ (r ≡ length (resolved (now (aliases .entry)) (tagsOf (now (s .entry))))) × (now (out .exit) ≡ sets (now (out .entry)) 0 (resolved (now (aliases .entry)) (tagsOf (now (s .entry))))) ⌝ }
+{
+    let n = s.len();
+    let mut at = 0;
+    let mut end = 0;
+    while at < n {
+        let start = at + 1;
+        let t = judge(&s[start..]);
+        let stop = start + t.len;
+        end = write_aliased(&s[start..stop], 0, &s[..0], b"variant\t", aliases, out, end);
+        at = stop;
+    }
+    end
+}
+
+// Room for the variants before equal ones merge: fifty of four bytes may each become eight.
+fn room() -> [u8; 512]
+    ensures { λ r. ⌜ length r ≡ 512 ⌝ }
+{
+    [0u8; 512]
+}
+
+// Writes the variants of the canonical form, from those of the section s.
+pub fn write_variants(s: &[u8], aliases: &[u8], out: &mut [u8], at: usize) -> usize
+    requires { ⌜ Led (now s) × Plain (tagsOf (now s)) × EachVariant (tagsOf (now s)) × Tested (now aliases) × (length (now s) ≤ 255) × (at + 459 ≤ length (now out)) ⌝ }
+    ensures { λ r. ⌜ (r ≡ at + length (led (canonicalVariants (tablesOf (now (aliases .entry)) [] []) (tagsOf (now (s .entry)))))) × (now (out .exit) ≡ sets (now (out .entry)) at (led (canonicalVariants (tablesOf (now (aliases .entry)) [] []) (tagsOf (now (s .entry)))))) ⌝ }
+{
+    if s.len() == 0 {
+        return at;
+    }
+    let mut scratch = room();
+    let m = resolve_variants(s, aliases, &mut scratch);
+    write_sorted(&scratch[..m], 8, false, out, at)
+}

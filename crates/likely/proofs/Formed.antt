@@ -1,0 +1,237 @@
+-- From the canonical form in a buffer to what maximising and minimising make of it. Assumes nothing.
+use mathlib.Core.Path.{_≡_, refl, sym, ap, ap₂, _∙_, subst}
+use mathlib.Core.Bool.{Bool, true, false}
+use mathlib.Core.List.{List, [], _∷_, _++_, append-assoc}
+use mathlib.Core.Option.{Option, none, some, Option·none-ne-some}
+use Prim.Native.Nat.{ℕ, zero, suc, _+_, _-_, _≤_}
+use native.Mathlib.Omega.{arith}
+use lib.ListN.{length, take, drop, length-append, take-append-drop}
+use lib.Seq.{drop-drop, take-append-seam, drop-append-seam}
+use Rattle.standard.specs.Delivery.{Bytes, Made as MadeBytes, refusal, Given, given}
+use types.Run.{OneOf, miss}
+use denote.Enum.Declared.{tagOf}
+use Rattle.canonical.proofs.form.Canon.{the-type}
+use Rattle.canonical.specs.declared.form.Canon.{Canon}
+use Rattle.likely.specs.declared.tested.Answered.the-variants.{Refused, Made}
+use Rattle.likely.specs.declared.forms.Outcome.{Outcome}
+use Rattle.likely.specs.Answered.{givenRefused, givenAnswered}
+use Rattle.standard.specs.Calls.{canonicalise, maximise, minimise}
+use Rattle.standard.specs.Identifier.{Three, Identifier, Tables, Answer, done, refused, canonical, canonicalForm, maximised, minimised, then, maximalThree, withoutUnknown, trial, withThree, part, size}
+use Rattle.standard.specs.Reading.{Read, good, bad, read, print}
+use Rattle.standard.specs.Table.{tablesOf, check}
+use Rattle.standard.specs.Make.{operate, made, makeOf, make}
+use Rattle.standard.proofs.Sound.{read-raw}
+use Rattle.standard.proofs.Core.{Full, maximal-full}
+use Rattle.standard.proofs.Operations.{bounded-done}
+use Rattle.standard.proofs.Round.{Shaped, Printable, length-print}
+use Rattle.standard.proofs.Closed.{fill-shaped, strip-shaped, core-printable}
+use Rattle.standard.proofs.Demand.{printable-of}
+use Rattle.standard.proofs.Table.{Passed, passed, good-tables, shaped-tables}
+use Rattle.standard.proofs.Whole.{same-canonical, narrow-likely}
+use Rattle.table.specs.Search.{Sorted}
+use Rattle.canonical.specs.declared.form.Form.{Form}
+use Rattle.canonical.specs.declared.form.Canon.the-variants.{Formed, Empty, TooLong, BadByte, BadSize, Misplaced, Repeated, Unfinished, Overlong}
+use Rattle.canonical.specs.Form.{form as formed-as, refusal as refused-as, formOf, formed, canonicalOf, outcomeOf, outcome, FormFits}
+use Rattle.likely.specs.Parts.{ledPart, Parts, parts3, partsOf, joinedParts, fillParts, Ready}
+use Rattle.likely.specs.Forms.{givenBy, bytesOf, madeParts, ReadyFor}
+use Rattle.likely.specs.Both.{operationOf}
+use Rattle.likely.specs.Slices.{Slices}
+use Rattle.likely.proofs.Laws.{known-parts, mapParts, fill-parts}
+use Rattle.standard.specs.Tag.{Tag}
+use Rattle.likely.proofs.Delivered.{form-length}
+use Rattle.likely.proofs.Makes.{restOf, print-rest, maximised-made, minimised-made, shaped-short}
+
+drop-behind : (x y : Bytes) (n : ℕ) → drop (length x + n) (x ++ y) ≡ drop n y
+drop-behind x y n = sym (drop-drop n (length x) (x ++ y)) ∙ ap (drop n) (drop-append-seam x y)
+
+pub slices : (buf a b c d : Bytes) (l s r n : ℕ) → l ≡ length a → s ≡ l + length b → r ≡ s + length c → n ≡ r + length d → take n buf ≡ (a ++ (b ++ c)) ++ d → Slices buf a b c d l s r n
+slices buf a b c d l s r n el es er en e =
+    let y = drop n buf in
+    let z : buf ≡ a ++ (b ++ (c ++ (d ++ y))) = sym (take-append-drop n buf) ∙ (ap (λ (x : Bytes). x ++ y) e ∙ (append-assoc (a ++ (b ++ c)) d y ∙ (append-assoc a (b ++ c) (d ++ y) ∙ ap (λ (x : Bytes). a ++ x) (append-assoc b c (d ++ y))))) in
+    let k₁ : s - l ≡ length b = omega arith in
+    let k₂ : r - s ≡ length c = omega arith in
+    let k₃ : n - r ≡ length d = omega arith in
+    let d₁ : drop l buf ≡ b ++ (c ++ (d ++ y)) = ap₂ drop el z ∙ drop-append-seam a (b ++ (c ++ (d ++ y))) in
+    let s₂ : s ≡ length a + length b = omega arith in
+    let d₂ : drop s buf ≡ c ++ (d ++ y) = ap₂ drop s₂ z ∙ (drop-behind a (b ++ (c ++ (d ++ y))) (length b) ∙ drop-append-seam b (c ++ (d ++ y))) in
+    let r₂ : r ≡ length a + (length b + length c) = omega arith in
+    let d₃ : drop r buf ≡ d ++ y = ap₂ drop r₂ z ∙ (drop-behind a (b ++ (c ++ (d ++ y))) (length b + length c) ∙ (drop-behind b (c ++ (d ++ y)) (length c) ∙ drop-append-seam c (d ++ y))) in
+    record {
+      first = ap₂ take el z ∙ take-append-seam a (b ++ (c ++ (d ++ y)));
+      second = ap₂ take k₁ d₁ ∙ take-append-seam b (c ++ (d ++ y));
+      third = ap₂ take k₂ d₂ ∙ take-append-seam c (d ++ y);
+      fourth = ap₂ take k₃ d₃ ∙ take-append-seam d y;
+    }
+
+-- What a form in a buffer stands for.
+pub record Canonicalised (A x : Bytes) (f : Form) (buf : Bytes) : Type 0 where
+  pub input : Identifier
+  pub form : Identifier
+  pub reads : read x ≡ good input
+  pub does : canonical (tablesOf A [] []) input ≡ done form
+  pub ends : f ≡ formOf form
+  pub bytes : take (f .len) buf ≡ print form
+
+form-one : {f g : Form} {x y : Bytes} → formed-as f x ≡ formed-as g y → (f ≡ g) × (x ≡ y)
+form-one e = (cc, cc)
+
+form-not : {f : Form} {x : Bytes} {n p : ℕ} {P : Type 0} → formed-as f x ≡ refused-as n p → P
+form-not e = let z : _≡_ {A = ℕ} 0 1 = cc in absurd (omega arith)
+
+some-one : {p q : Parts} → _≡_ {A = Option Parts} (some p) (some q) → p ≡ q
+some-one e = cc
+
+led-size : (t : Tag) → length (ledPart t) ≡ part t
+unfolding ledPart part
+led-size [] = refl
+led-size (b ∷ bs) = refl
+
+pub canonicalised : (A x : Bytes) (f : Form) (buf : Bytes) → outcomeOf (Formed f) buf ≡ outcome A x → Canonicalised A x f buf
+unfolding outcomeOf outcome canonicalOf formed
+canonicalised A x f buf e = go (read x) refl e
+  where
+    by : (i : Identifier) → read x ≡ good i → (a : Answer) → canonical (tablesOf A [] []) i ≡ a → formed-as f (take (f .len) buf) ≡ formed a → Canonicalised A x f buf
+    by i r (refused n) q k = form-not k
+    by i r (done c) q k = let z = form-one k in record { input = i; form = c; reads = r; does = q; ends = z .0; bytes = z .1 }
+
+    go : (a : Read) → read x ≡ a → formed-as f (take (f .len) buf) ≡ canonicalOf (tablesOf A [] []) a → Canonicalised A x f buf
+    go (bad n p) r k = form-not k
+    go (good i) r k = by i r (canonical (tablesOf A [] []) i) refl k
+
+module _ (A L : Bytes) (pass : check true false A L [] ≡ none) (sorted : Sorted L) (x : Bytes) (f : Form) (buf : Bytes) (w : Canonicalised A x f buf) where
+  abbrev T : Tables
+  T = tablesOf A L []
+
+  abbrev whole : check true true A L [] ≡ none
+  whole = narrow-likely A L ∙ pass
+
+  abbrev ok : Passed A L []
+  ok = passed A L [] whole
+
+  abbrev c : Identifier
+  c = w .form
+
+  canonicalises : canonical T (w .input) ≡ done c
+  canonicalises = same-canonical A L [] [] [] (w .input) ∙ w .does
+
+  printable : Printable c
+  unfolding operate
+  printable = printable-of T (good-tables A L [] ok) (shaped-tables A L [] ok) canonicalise (w .input) c (read-raw x (w .input) (w .reads)) canonicalises
+
+  shaped : (t : Three) → maximalThree T (withoutUnknown (c .core)) ≡ some t → Shaped t
+  shaped t e = fill-shaped T (shaped-tables A L [] ok) (withoutUnknown (c .core)) t (strip-shaped T (shaped-tables A L [] ok) (c .core) (printable .core)) e
+
+  full : (t : Three) → maximalThree T (withoutUnknown (c .core)) ≡ some t → Full T t
+  unfolding canonical canonicalForm trial
+  full t e =
+      let k = (bounded-done (canonicalForm T (w .input)) c canonicalises) .0 in
+      maximal-full T (good-tables A L [] ok) (w .input .core) t (ap (λ (i : Identifier). maximalThree T (withoutUnknown (i .core))) k ∙ e)
+
+  printables : (t : Three) → maximalThree T (withoutUnknown (c .core)) ≡ some t → Printable (withThree c t)
+  printables t e = core-printable T (shaped-tables A L [] ok) c t printable (shaped t e)
+
+  pub made-by : (b : Bool) → make T (operationOf b) x ≡ madeParts b L (restOf c) (partsOf (c .core))
+  unfolding make makeOf operate maximised minimised then operationOf
+  made-by false = rw (w .reads, canonicalises) (maximised-made A L [] whole c printables)
+  made-by true = rw (w .reads, canonicalises) (minimised-made A L [] whole c printables full)
+
+  pub ready : ReadyFor L (partsOf (c .core))
+  unfolding mapParts
+  ready = record {
+    first = subst (Ready L) (known-parts (c .core)) (record { sorted = sorted; short = shaped-short (withoutUnknown (c .core)) (strip-shaped T (shaped-tables A L [] ok) (c .core) (printable .core)) });
+    again = λ q e. again q (ap (fillParts L) (known-parts (c .core)) ∙ e);
+  }
+    where
+      look : (o : Option Three) → maximalThree T (withoutUnknown (c .core)) ≡ o → (q : Parts) → mapParts o ≡ some q → Ready L q
+      look none e q k = absurd (Option·none-ne-some q k)
+      look (some t) e q k = let z : partsOf t ≡ q = some-one k in subst (Ready L) z (record { sorted = sorted; short = shaped-short t (shaped t e) })
+
+      again : (q : Parts) → fillParts L (partsOf (withoutUnknown (c .core))) ≡ some q → Ready L q
+      again q e = look (maximalThree T (withoutUnknown (c .core))) refl q (sym (fill-parts A L [] whole (withoutUnknown (c .core))) ∙ e)
+
+  pub cuts : Slices buf ((partsOf (c .core)) .language) ((partsOf (c .core)) .script) ((partsOf (c .core)) .region) (restOf c) (f .language) (f .script) (f .region) (f .len)
+  unfolding formOf partsOf bytesOf joinedParts
+  cuts =
+      let e = w .ends in
+      let n : size c ≡ length (c .core .language) + length (ledPart (c .core .script)) + length (ledPart (c .core .region)) + length (restOf c) =
+      sym (length-print c printable) ∙ (ap length (print-rest c) ∙ form-length (c .core .language) (ledPart (c .core .script)) (ledPart (c .core .region)) (restOf c)) in
+      let a = ap (λ (g : Form). g .language) e in
+      let b = ap (λ (g : Form). g .script) e in
+      let d = ap (λ (g : Form). g .region) e in
+      let k = ap (λ (g : Form). g .len) e in
+      let p = led-size (c .core .script) in
+      let q = led-size (c .core .region) in
+      slices buf _ _ _ _ (f .language) (f .script) (f .region) (f .len) a (omega (arith, a, b, p)) (omega (arith, b, d, q)) (omega (arith, d, k, n, p, q)) (w .bytes ∙ print-rest c)
+
+-- where the parts end, one behind the other
+pub in-order : (f : Form) (i : Identifier) → f ≡ formOf i → (f .language ≤ f .script) × (f .script ≤ f .region) × (f .region ≤ f .len)
+unfolding formOf size
+in-order f i e =
+    let a = ap (λ (g : Form). g .language) e in
+    let b = ap (λ (g : Form). g .script) e in
+    let c = ap (λ (g : Form). g .region) e in
+    let d = ap (λ (g : Form). g .len) e in
+    (omega (arith, a, b), omega (arith, b, c), omega (arith, c, d))
+
+pub by-slices : (b : Bool) (L : Bytes) (p : Parts) (rest l s r d : Bytes) (G : Given) (out : Bytes) → l ≡ p .language → s ≡ p .script → r ≡ p .region → d ≡ rest
+    → (ReadyFor L (parts3 l s r) → G ≡ given (madeParts b L d (parts3 l s r)) out) → ReadyFor L p → G ≡ given (madeParts b L rest p) out
+by-slices b L p rest l s r d G out el es er ed h k =
+    let e : parts3 l s r ≡ p = λ i. parts3 (el i) (es i) (er i) in
+    h (subst (ReadyFor L) (sym e) k) ∙ ap₂ (λ (x : Bytes) (q : Parts). given (madeParts b L x q) out) ed e
+
+-- A refusal of canonicalising stands.
+refusal-form : (c : Canon) (buf : Bytes) → OneOf (1 ∷ 2 ∷ 3 ∷ 4 ∷ 5 ∷ 6 ∷ 7 ∷ 8 ∷ []) (tagOf the-type c) → (n : ℕ) × (p : ℕ) × (outcomeOf c [] ≡ refused-as n p) × (outcomeOf c buf ≡ refused-as n p)
+unfolding outcomeOf
+refusal-form (Formed f) buf k = absurd (miss (1 ∷ 2 ∷ 3 ∷ 4 ∷ 5 ∷ 6 ∷ 7 ∷ 8 ∷ []) 0 tt k)
+refusal-form Empty buf k = (1, 0, refl, refl)
+refusal-form TooLong buf k = (2, 0, refl, refl)
+refusal-form (BadByte at) buf k = (3, at, refl, refl)
+refusal-form (BadSize at) buf k = (4, at, refl, refl)
+refusal-form (Misplaced at) buf k = (5, at, refl, refl)
+refusal-form (Repeated at) buf k = (6, at, refl, refl)
+refusal-form (Unfinished at) buf k = (7, at, refl, refl)
+refusal-form Overlong buf k = (9, 0, refl, refl)
+
+refusal-one : {m n p q : ℕ} → refused-as m p ≡ refused-as n q → (m ≡ n) × (p ≡ q)
+refusal-one e = (cc, cc)
+
+refused-made : (A L x : Bytes) (b : Bool) (n p : ℕ) → outcome A x ≡ refused-as n p → make (tablesOf A L []) (operationOf b) x ≡ refusal n p 0
+unfolding outcome canonicalOf formed make makeOf made operate operationOf maximised minimised then
+refused-made A L x b n p e = go (read x) e
+  where
+    operated : (i : Identifier) (m : ℕ) → canonical (tablesOf A [] []) i ≡ refused m → operate (tablesOf A L []) (operationOf b) i ≡ refused m
+    operated i m q = both b (same-canonical A L [] [] [] i ∙ q)
+      where
+        both : (c : Bool) → canonical (tablesOf A L []) i ≡ refused m → operate (tablesOf A L []) (operationOf c) i ≡ refused m
+        both false z = rw z
+        both true z = rw z
+
+    by : (i : Identifier) (a : Answer) → canonical (tablesOf A [] []) i ≡ a → formed a ≡ refused-as n p → made (operate (tablesOf A L []) (operationOf b) i) ≡ refusal n p 0
+    by i (done c) q k = form-not k
+    by i (refused m) q k = let z = refusal-one k in ap made (operated i m q) ∙ rw (z .0, ← (z .1))
+
+    go : (a : Read) → canonicalOf (tablesOf A [] []) a ≡ refused-as n p → makeOf (tablesOf A L []) (operationOf b) a ≡ refusal n p 0
+    go (bad m q) k = let z = refusal-one k in rw (z .0, z .1)
+    go (good i) k = by i (canonical (tablesOf A [] []) i) refl k
+
+pub refusal-stands : (A L x : Bytes) (b : Bool) (c : Canon) (buf out : Bytes) → outcomeOf c buf ≡ outcome A x → OneOf (1 ∷ 2 ∷ 3 ∷ 4 ∷ 5 ∷ 6 ∷ 7 ∷ 8 ∷ []) (tagOf the-type c)
+    → givenAnswered (Refused c) out ≡ given (make (tablesOf A L []) (operationOf b) x) out
+unfolding givenAnswered givenRefused given
+refusal-stands A L x b c buf out e k =
+    let r = refusal-form c buf k in
+    rw (r .2, refused-made A L x b (r .0) (r .1) (sym e ∙ r .3))
+
+-- the form that the code has in hand
+pub formed-by : (A x buf : Bytes) {c : Canon} {f : Form} → c ≡ Formed f → outcomeOf c buf ≡ outcome A x → outcomeOf (Formed f) buf ≡ outcome A x
+formed-by A x buf e h = subst (λ (q : Canon). outcomeOf q buf ≡ outcome A x) e h
+
+pub fits-by : {c : Canon} {f : Form} → c ≡ Formed f → FormFits c → f .len ≤ 255
+unfolding FormFits
+fits-by e h = subst FormFits e h
+
+pub made-answer : (A L : Bytes) (pass : check true false A L [] ≡ none) (sorted : Sorted L) (x : Bytes) (f : Form) (buf : Bytes) (w : Canonicalised A x f buf) (b : Bool) (o : Outcome) (out out′ : Bytes)
+    → ((p : Parts) → (rest : Bytes) → Slices buf (p .language) (p .script) (p .region) rest (f .language) (f .script) (f .region) (f .len) → ReadyFor L p → givenBy o out′ ≡ given (madeParts b L rest p) out)
+    → givenAnswered (Made o) out′ ≡ given (make (tablesOf A L []) (operationOf b) x) out
+unfolding givenAnswered
+made-answer A L pass sorted x f buf w b o out out′ h =
+    h (partsOf (w .form .core)) (restOf (w .form)) (cuts A L pass sorted x f buf w) (ready A L pass sorted x f buf w) ∙ ap (λ (m : MadeBytes). given m out) (sym (made-by A L pass sorted x f buf w b))

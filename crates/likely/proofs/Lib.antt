@@ -1,0 +1,5 @@
+pub mod Laws
+pub mod Lookups
+pub mod Delivered
+pub mod Makes
+pub mod Formed

@@ -1,0 +1,170 @@
+-- What is made by parts is what the standard makes of a canonical identifier. Assumes nothing.
+use mathlib.Core.Path.{_≡_, refl, sym, ap, ap₂, _∙_, subst}
+use mathlib.Core.Bool.{Bool, true, false, cond}
+use mathlib.Core.Logic.{_⊎_, inl, inr}
+use mathlib.Core.List.{List, [], _∷_, _++_, append-nil, append-assoc}
+use mathlib.Core.Option.{Option, none, some}
+use Prim.Native.Nat.{ℕ, zero, suc, _+_, _≤_}
+use native.Mathlib.Omega.{arith}
+use lib.Dec.{leb}
+use lib.ListN.{length, length-append}
+use Rattle.standard.specs.Tag.{Tag}
+use Rattle.standard.specs.Grammar.{Size, sizeOf, isLanguage, languageSize, Kind, aScript, aRegion, aVariant, aNone, kind, kindOf, flat, title, upper, every, small, digit, startsWithDigit}
+use Rattle.standard.specs.Identifier.{Three, Identifier, Tables, Answer, done, refused, bounded, size, withThree, filled, then, maximalThree, minimalThree, withoutUnknown}
+use Rattle.standard.specs.Reading.{optional, rest, tags, joined, print}
+use Rattle.standard.specs.Delivery.{Bytes, Made, result, refusal, form}
+use Rattle.standard.specs.Table.{tablesOf, check}
+use Rattle.standard.specs.Make.{made}
+use Rattle.standard.proofs.Bytes.{clash, and-true}
+use Rattle.standard.proofs.Faults.{Maybe}
+use Rattle.standard.proofs.Round.{Shown, Shaped, Printable, length-print}
+use Rattle.standard.proofs.Core.{Full}
+use Rattle.canonical.specs.Section.{led}
+use Rattle.canonical.proofs.Print.{print-led}
+use Rattle.likely.specs.Parts.{ledPart, Parts, partsOf, joinedParts, knownPart, knownParts, fillParts, minimalParts}
+use Rattle.likely.specs.Forms.{shortForm, bytesOf, keptIf, madeOf, madeFilled, madeParts}
+use Rattle.likely.proofs.Laws.{print-parts, known-parts, mapParts, fill-parts, minimal-parts}
+
+-- what stands behind the three
+unfoldable pub restOf : Identifier → Bytes
+restOf i = led (i .variants) ++ (led (flat (i .extensions)) ++ led (i .private))
+
+led-optional : (t : Tag) → led (optional t) ≡ ledPart t
+unfolding led optional ledPart
+led-optional [] = refl
+led-optional (b ∷ bs) = ap (λ (z : Bytes). 45 ∷ b ∷ z) (append-nil bs)
+
+-- a printed identifier is its three and the rest
+pub print-rest : (i : Identifier) → print i ≡ bytesOf (partsOf (i .core)) (restOf i)
+unfolding bytesOf restOf partsOf joinedParts
+print-rest i =
+    let l = i .core .language in
+    let s = ledPart (i .core .script) in
+    let r = ledPart (i .core .region) in
+    print-led i
+    ∙ (ap₂ (λ (x y : Bytes). l ++ (x ++ (y ++ restOf i))) (led-optional (i .core .script)) (led-optional (i .core .region))
+    ∙ (ap (λ (x : Bytes). l ++ x) (sym (append-assoc s r (restOf i))) ∙ sym (append-assoc l (s ++ r) (restOf i))))
+
+-- its length is what number 9 is about
+with-length : (c : Identifier) (t : Three) → Printable (withThree c t) → length (bytesOf (partsOf t) (restOf c)) ≡ size (withThree c t)
+unfolding withThree restOf
+with-length c t h = sym (ap length (print-rest (withThree c t))) ∙ length-print (withThree c t) h
+
+with-print : (c : Identifier) (t : Three) → print (withThree c t) ≡ bytesOf (partsOf t) (restOf c)
+unfolding withThree restOf
+with-print c t = print-rest (withThree c t)
+
+made-bounded : (f : Identifier → Identifier) (i : Identifier) → made (then (λ m. done (f m)) (bounded i)) ≡ cond (leb (size i) 255) (form (print (f i))) (refusal 9 0 0)
+unfolding made then bounded
+made-bounded f i = go (leb (size i) 255)
+  where
+    go : (b : Bool) → made (then (λ m. done (f m)) (cond b (done i) (refused 9))) ≡ cond b (form (print (f i))) (refusal 9 0 0)
+    go true = refl
+    go false = refl
+
+then-same : (a : Answer) → then (λ m. done m) a ≡ a
+unfolding then
+then-same (done i) = refl
+then-same (refused n) = refl
+
+module _ (A L P : Bytes) (pass : check true true A L P ≡ none) (c : Identifier) (h : (t : Three) → maximalThree (tablesOf A L P) (withoutUnknown (c .core)) ≡ some t → Printable (withThree c t)) where
+  abbrev T : Tables
+  T = tablesOf A L P
+
+  fills : fillParts L (knownParts (partsOf (c .core))) ≡ mapParts (maximalThree T (withoutUnknown (c .core)))
+  fills = ap (fillParts L) (sym (known-parts (c .core))) ∙ fill-parts A L P pass (withoutUnknown (c .core))
+
+  pub maximised-made : made (filled c (maximalThree T (withoutUnknown (c .core)))) ≡ madeParts false L (restOf c) (partsOf (c .core))
+  unfolding madeParts made filled then madeFilled mapParts madeOf shortForm keptIf
+  maximised-made = go (maximalThree T (withoutUnknown (c .core))) refl ∙ ap (madeFilled false L (restOf c)) (sym fills)
+    where
+      go : (o : Option Three) → maximalThree T (withoutUnknown (c .core)) ≡ o → made (filled c o) ≡ madeFilled false L (restOf c) (mapParts o)
+      go none e = refl
+      go (some t) e =
+          ap made (sym (then-same (bounded (withThree c t)))) ∙ (made-bounded (λ m. m) (withThree c t)
+          ∙ ap₂ (λ (n : ℕ) (x : Bytes). cond (leb n 255) (form x) (refusal 9 0 0)) (sym (with-length c t (h t e))) (with-print c t))
+
+  pub minimised-made : ((t : Three) → maximalThree T (withoutUnknown (c .core)) ≡ some t → Full T t)
+      → made (then (λ m. done (withThree m (minimalThree T (m .core)))) (filled c (maximalThree T (withoutUnknown (c .core))))) ≡ madeParts true L (restOf c) (partsOf (c .core))
+  unfolding madeParts made filled then madeFilled mapParts madeOf shortForm keptIf withThree
+  minimised-made f = go (maximalThree T (withoutUnknown (c .core))) refl ∙ ap (madeFilled true L (restOf c)) (sym fills)
+    where
+      go : (o : Option Three) → maximalThree T (withoutUnknown (c .core)) ≡ o
+          → made (then (λ m. done (withThree m (minimalThree T (m .core)))) (filled c o)) ≡ madeFilled true L (restOf c) (mapParts o)
+      go none e = refl
+      go (some t) e =
+          made-bounded (λ m. withThree m (minimalThree T (m .core))) (withThree c t)
+          ∙ ap₂ (λ (n : ℕ) (x : Bytes). cond (leb n 255) (form x) (refusal 9 0 0)) (sym (with-length c t (h t e)))
+          (with-print c (minimalThree T t) ∙ ap (λ (q : Parts). bytesOf q (restOf c)) (sym (minimal-parts A L P pass t (f t e))))
+
+-- A shaped three has room in a key.
+abbrev isNoKind : Kind → Bool
+isNoKind aScript = true
+isNoKind aRegion = true
+isNoKind aVariant = true
+isNoKind aNone = false
+
+language-short : (t : Tag) → isLanguage t ≡ true → length t ≤ 8
+unfolding isLanguage languageSize sizeOf
+language-short [] e = omega arith
+language-short (a ∷ []) e = omega arith
+language-short (a ∷ b ∷ []) e = omega arith
+language-short (a ∷ b ∷ c ∷ []) e = omega arith
+language-short (a ∷ b ∷ c ∷ d ∷ []) e = omega arith
+language-short (a ∷ b ∷ c ∷ d ∷ f ∷ []) e = omega arith
+language-short (a ∷ b ∷ c ∷ d ∷ f ∷ g ∷ []) e = omega arith
+language-short (a ∷ b ∷ c ∷ d ∷ f ∷ g ∷ h ∷ []) e = omega arith
+language-short (a ∷ b ∷ c ∷ d ∷ f ∷ g ∷ h ∷ i ∷ []) e = omega arith
+language-short (a ∷ b ∷ c ∷ d ∷ f ∷ g ∷ h ∷ i ∷ j ∷ t) e = clash {b = false} e refl
+
+kind-short : (t : Tag) → (kindOf t ≡ aNone → ⊥) → length t ≤ 8
+unfolding kindOf kind sizeOf
+kind-short [] e = omega arith
+kind-short (a ∷ []) e = omega arith
+kind-short (a ∷ b ∷ []) e = omega arith
+kind-short (a ∷ b ∷ c ∷ []) e = omega arith
+kind-short (a ∷ b ∷ c ∷ d ∷ []) e = omega arith
+kind-short (a ∷ b ∷ c ∷ d ∷ f ∷ []) e = omega arith
+kind-short (a ∷ b ∷ c ∷ d ∷ f ∷ g ∷ []) e = omega arith
+kind-short (a ∷ b ∷ c ∷ d ∷ f ∷ g ∷ h ∷ []) e = omega arith
+kind-short (a ∷ b ∷ c ∷ d ∷ f ∷ g ∷ h ∷ i ∷ []) e = omega arith
+kind-short (a ∷ b ∷ c ∷ d ∷ f ∷ g ∷ h ∷ i ∷ j ∷ t) e = absurd (e refl)
+
+title-length : (t : Tag) → length (title t) ≡ length t
+unfolding title
+title-length [] = refl
+title-length (b ∷ bs) = refl
+
+upper-length : (t : Tag) → length (upper t) ≡ length t
+unfolding upper
+upper-length [] = refl
+upper-length (b ∷ bs) = ap suc (upper-length bs)
+
+shown-short : (k : Kind) (f : Tag → Tag) (s : Tag) → (k ≡ aNone → ⊥) → ((t : Tag) → length (f t) ≡ length t) → Shown k f s → length s ≤ 8
+unfolding Maybe
+shown-short k f s n l h = go (h .kind)
+  where
+    go : (h .token ≡ []) ⊎ (kindOf (h .token) ≡ k) → length s ≤ 8
+    go (inl e) = let a = ap length (h .stored) ∙ (l (h .token) ∙ ap length e) in omega (arith, a)
+    go (inr e) = let a = ap length (h .stored) ∙ l (h .token) in let b = kind-short (h .token) (λ q. n (sym e ∙ q)) in omega (arith, a, b)
+
+led-length : (t : Tag) → length (ledPart t) ≤ length t + 1
+unfolding ledPart
+led-length [] = omega arith
+led-length (b ∷ bs) = omega arith
+
+pub shaped-short : (t : Three) → Shaped t → length ((partsOf t) .language) + length ((partsOf t) .script) + length ((partsOf t) .region) ≤ 32
+unfolding partsOf
+shaped-short t h =
+    let a = language-short (t .language) (h .language) in
+    let b = shown-short aScript title (t .script) script-not title-length (h .script) in
+    let c = shown-short aRegion upper (t .region) region-not upper-length (h .region) in
+    let d = led-length (t .script) in
+    let e = led-length (t .region) in
+    omega arith
+  where
+    script-not : aScript ≡ aNone → ⊥
+    script-not q = clash {b = isNoKind aScript} refl (ap isNoKind q)
+
+    region-not : aRegion ≡ aNone → ⊥
+    region-not q = clash {b = isNoKind aRegion} refl (ap isNoKind q)

@@ -1,0 +1,29 @@
+use mathlib.Core.Path.{sym, _∙_}
+use Rattle.likely.proofs.Lookups.{no-room, leb-le}
+use borrow.Author.Needs.{needs}
+use Rattle.likely.proofs.rows.find.Statement.{statement}
+use Rattle.likely.proofs.rows.find.Tie as tie
+use Rattle.likely.proofs.rows.find.Reads as reads
+use Rattle.likely.proofs.rows.find.Lts as lts
+use Rattle.likely.proofs.rows.find_key.Reads as find-key-reads
+use Rattle.likely.proofs.rows.has_room.Reads as has-room-reads
+
+has-room-requires : tie.Need-has-room-requires
+has-room-requires c κs = search needs
+
+find-key-requires : tie.Need-find-key-requires
+find-key-requires c κs = leb-le _ _ (sym (c .before .before .has-room .ensures) ∙ c .before .if1 .taken)
+
+returns : tie.Need-returns
+returns c = ((λ q. c .find-key .ensures .0 (q .sorted)), (λ q. c .find-key .ensures .1 (q .sorted)))
+
+slice-aggregate-result : tie.Need-slice-aggregate-result
+slice-aggregate-result c = search needs
+
+returns-2 : tie.Need-returns-2
+returns-2 c = no-room _ _ (c .before .before .has-room .ensures) (c .before .if1 .left)
+
+pub find-spec : {M : Type 1} → statement M
+find-spec =
+    tie.close
+    (tie.spec has-room-requires find-key-requires returns slice-aggregate-result returns-2)

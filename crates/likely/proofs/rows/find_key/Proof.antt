@@ -1,0 +1,65 @@
+use mathlib.Core.Path.{_≡_, refl, sym}
+use Prim.Native.Nat.{_+_, _≤_}
+use lib.ListN.{length}
+use native.Mathlib.Omega.{arith}
+use lib.Seq.{length-take-le}
+use Rattle.likely.proofs.Lookups.{blank, put-three, value-by, found-by}
+use borrow.Author.Needs.{needs}
+use Rattle.likely.proofs.rows.find_key.Statement.{statement}
+use Rattle.likely.proofs.rows.find_key.Tie as tie
+use Rattle.likely.proofs.rows.find_key.Reads as reads
+use Rattle.likely.proofs.rows.find_key.Lts as lts
+use Rattle.canonical.proofs.alias.put.Reads as put-reads
+use Rattle.table.proofs.lookup_sorted.Reads as lookup-sorted-reads
+
+slice-aggregate-put : tie.Need-slice-aggregate-put
+slice-aggregate-put c = search needs
+
+put-requires : tie.Need-put-requires
+put-requires c κs = search needs
+
+slice-aggregate-put-2 : tie.Need-slice-aggregate-put-2
+slice-aggregate-put-2 c = search needs
+
+put-requires-2 : tie.Need-put-requires-2
+put-requires-2 c κs = search needs
+
+slice-aggregate-put-3 : tie.Need-slice-aggregate-put-3
+slice-aggregate-put-3 c = search needs
+
+put-requires-3 : tie.Need-put-requires-3
+put-requires-3 c κs = search needs
+
+array-share-prefix-key : tie.Need-array-share-prefix-key
+array-share-prefix-key c = search needs
+
+slice-aggregate-lookup-sorted : tie.Need-slice-aggregate-lookup-sorted
+slice-aggregate-lookup-sorted c = sym (length-take-le _ _ (omega arith))
+
+lookup-sorted-requires : tie.Need-lookup-sorted-requires
+lookup-sorted-requires c κs = search needs
+
+returns : tie.Need-returns
+returns c =
+    let p₃ = c .before .before .before .before .put3 in
+    let p₂ = c .before .before .before .before .before .before .before .put2 in
+    let p₁ = c .before .before .before .before .before .before .before .before .before .before .put in
+    let a = c .before .before .before .before .before .before .before .before .before .before .before .before .before .before .before .before .args in
+    let room : length (a .language .now) + length (a .script .now) + length (a .region .now) ≤ 32 = omega arith in
+    let k = put-three blank _ _ _ (a .language .now) (a .script .now) (a .region .now) _ _ _ (p₁ .ensures .1) (p₁ .ensures .0) (p₂ .ensures .1) (p₂ .ensures .0) (p₃ .ensures .1) (p₃ .ensures .0) room refl in
+    ((λ s. value-by _ _ _ _ (c .lookup-sorted .ensures .0 s) k), (λ s. found-by _ _ _ _ (c .lookup-sorted .ensures .1 s) k))
+
+pub find-key-spec : {M : Type 1} → statement M
+find-key-spec =
+    tie.close
+    (tie.spec
+    slice-aggregate-put
+    put-requires
+    slice-aggregate-put-2
+    put-requires-2
+    slice-aggregate-put-3
+    put-requires-3
+    array-share-prefix-key
+    slice-aggregate-lookup-sorted
+    lookup-sorted-requires
+    returns)

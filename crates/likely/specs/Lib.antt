@@ -1,0 +1,6 @@
+pub mod Parts
+pub mod Kept
+pub mod Forms
+pub mod Slices
+pub mod Both
+pub mod Answered

@@ -1,0 +1,72 @@
+// Maximising and minimising over tables that were tested. The public operations and the programs come through here.
+use crate::forms::Outcome;
+use crate::forms::form_by_parts;
+use canonical::form::Canon;
+use canonical::form::Form;
+use canonical::form::canonical_form;
+ghost use mathlib.Core.Path.{_≡_};
+ghost use mathlib.Core.List.{List, []};
+ghost use Prim.Native.Nat.{ℕ, _≤_};
+ghost use mathlib.Core.Option.{none};
+ghost use lib.ListN.{length};
+ghost use Rattle.standard.specs.Delivery.{given};
+ghost use Rattle.standard.specs.Table.{tablesOf};
+ghost use Rattle.standard.specs.Make.{make};
+ghost use Rattle.likely.specs.Parts.{Parts};
+ghost use Rattle.likely.specs.Forms.{givenBy, madeParts, ReadyFor};
+ghost use Rattle.likely.specs.Slices.{Slices};
+ghost use Rattle.likely.specs.Answered.{givenAnswered};
+ghost use Rattle.likely.specs.Both.{TestedBoth, operationOf};
+
+// The refusal of canonicalising, which stands, or what was made.
+pub enum Answered {
+    Refused(Canon),
+    Made(Outcome),
+}
+
+// A buffer for the canonical form.
+fn blank() -> [u8; 512]
+    ensures { λ r. ⌜ length r ≡ 512 ⌝ }
+{
+    [0u8; 512]
+}
+
+// The maximised or minimised form of the canonical form in buf.
+fn from_form<'a>(shorten: bool, buf: &'a [u8], f: Form, likely: &'a [u8], out: &mut [u8]) -> Outcome
+    requires { ⌜ (f .language ≤ f .script) × (f .script ≤ f .region) × (f .region ≤ f .len) × (f .len ≤ length (now buf)) ⌝ }
+    ensures { λ r. ⌜ ((p : Parts) → (rest : List ℕ) → Slices (now (buf .entry)) (p .language) (p .script) (p .region) rest (f .language) (f .script) (f .region) (f .len) → ReadyFor (now (likely .entry)) p
+        → givenBy r (now (out .exit)) ≡ given (madeParts shorten (now (likely .entry)) rest p) (now (out .entry))) ⌝ }
+{
+    let l = f.language;
+    let s = f.script;
+    let r = f.region;
+    let n = f.len;
+    form_by_parts(
+        shorten,
+        &buf[..l],
+        &buf[l..s],
+        &buf[s..r],
+        &buf[r..n],
+        likely,
+        out,
+    )
+}
+
+// The maximised form of an identifier, or with shorten the minimised one. Both first canonicalise.
+pub fn form_tested(
+    shorten: bool,
+    id: &[u8],
+    aliases: &[u8],
+    likely: &[u8],
+    out: &mut [u8],
+) -> Answered
+    requires { ⌜ TestedBoth (now aliases) (now likely) ⌝ }
+    ensures { λ r. ⌜ givenAnswered r (now (out .exit)) ≡ given (make (tablesOf (now (aliases .entry)) (now (likely .entry)) []) (operationOf shorten) (now (id .entry))) (now (out .entry)) ⌝ }
+{
+    let mut buf = blank();
+    let c = canonical_form(id, aliases, &mut buf);
+    let Canon::Formed(f) = c else {
+        return Answered::Refused(c);
+    };
+    Answered::Made(from_form(shorten, &buf, f, likely, out))
+}

@@ -1,0 +1,105 @@
+// The maximised and the minimised three, by parts, over a likely table that passed the check.
+use crate::parts::dash_from;
+use crate::parts::first_is;
+use crate::parts::is_complete;
+use crate::rows::find_row;
+ghost use mathlib.Core.Path.{_≡_};
+ghost use Prim.Native.Nat.{_≤_};
+ghost use lib.ListN.{length};
+ghost use Rattle.likely.specs.Parts.{Ready, parts3, cutParts, cutAt, fillParts, filledBy, fitsParts, minimalParts};
+ghost use Rattle.likely.specs.Kept.{keptParts};
+
+// Where the language and the script of a value end.
+pub struct Cuts {
+    pub language: usize,
+    pub script: usize,
+}
+
+pub fn cuts_of(v: &[u8]) -> Cuts
+    ensures { λ r. ⌜ (r .language ≤ r .script) × (r .script ≤ length (now (v .entry))) × (cutAt (now (v .entry)) (r .language) (r .script) ≡ cutParts (now (v .entry))) ⌝ }
+{
+    let a = dash_from(v, 0);
+    if v.len() <= a {
+        return Cuts {
+            language: a,
+            script: a,
+        };
+    }
+    let b = dash_from(v, a + 1);
+    Cuts {
+        language: a,
+        script: b,
+    }
+}
+
+// The value of the row that completes the parts, empty where nothing is missing; and whether there is one.
+pub fn row_for<'a>(
+    likely: &'a [u8],
+    language: &[u8],
+    script: &[u8],
+    region: &[u8],
+    found: &mut bool,
+) -> &'a [u8]
+    ensures { λ r. ⌜ (Ready (now (likely .entry)) (parts3 (now (language .entry)) (now (script .entry)) (now (region .entry)))
+        → filledBy (parts3 (now (language .entry)) (now (script .entry)) (now (region .entry))) (now r) (now (found .exit))
+        ≡ fillParts (now (likely .entry)) (parts3 (now (language .entry)) (now (script .entry)) (now (region .entry)))) ⌝ }
+{
+    if is_complete(language, script, region) {
+        *found = true;
+        return &likely[..0];
+    }
+    find_row(likely, language, script, region, found)
+}
+
+// Do the parts of a trial maximise to the language, script and region of the maximised form?
+pub fn fits(
+    likely: &[u8],
+    language: &[u8],
+    script: &[u8],
+    region: &[u8],
+    whole_script: &[u8],
+    whole_region: &[u8],
+) -> bool
+    ensures { λ r. ⌜ (Ready (now (likely .entry)) (parts3 (now (language .entry)) (now (script .entry)) (now (region .entry)))
+        → r ≡ fitsParts (now (likely .entry)) (parts3 (now (language .entry)) (now («whole_script» .entry)) (now («whole_region» .entry))) (parts3 (now (language .entry)) (now (script .entry)) (now (region .entry)))) ⌝ }
+{
+    let mut found = false;
+    let v = find_row(likely, language, script, region, &mut found);
+    if !found {
+        return false;
+    }
+    let c = cuts_of(v);
+    let a = c.language;
+    let b = c.script;
+    if !first_is(script, &v[a..b], whole_script) {
+        return false;
+    }
+    first_is(region, &v[b..], whole_region)
+}
+
+// What the minimised form keeps of the maximised one's script and region.
+pub enum Kept {
+    Neither,
+    Region,
+    Script,
+    Both,
+}
+
+// The first trial that maximises to the three.
+pub fn minimal(likely: &[u8], language: &[u8], script: &[u8], region: &[u8]) -> Kept
+    ensures { λ r. ⌜ (Ready (now (likely .entry)) (parts3 (now (language .entry)) (now (script .entry)) (now (region .entry)))
+        → keptParts r (parts3 (now (language .entry)) (now (script .entry)) (now (region .entry)))
+        ≡ minimalParts (now (likely .entry)) (parts3 (now (language .entry)) (now (script .entry)) (now (region .entry)))) ⌝ }
+{
+    let none = &language[..0];
+    if fits(likely, language, none, none, script, region) {
+        return Kept::Neither;
+    }
+    if fits(likely, language, none, region, script, region) {
+        return Kept::Region;
+    }
+    if fits(likely, language, script, none, script, region) {
+        return Kept::Script;
+    }
+    Kept::Both
+}

@@ -1,0 +1,151 @@
+-- What follows the first subtag of an accepted language part: perhaps a script, perhaps a region, then variants.
+-- Assumes nothing.
+use mathlib.Core.Path.{_≡_, refl, sym, ap, ap₂, _∙_}
+use mathlib.Core.Bool.{Bool, true, false, _&&_}
+use mathlib.Core.List.{List, [], _∷_, _++_}
+use mathlib.Core.Option.{Option, none, some, Option·none-ne-some, Option·some-ne-none}
+use Prim.Native.Nat.{ℕ, suc, _+_}
+use native.Mathlib.Omega.{arith}
+use lib.ListN.{length}
+use Rattle.standard.specs.Tag.{Tag}
+use Rattle.standard.specs.Grammar.{Kind, aScript, aRegion, aVariant, aNone, kindOf, kind, variantKind, sizeOf, isVariant, only}
+use Rattle.standard.specs.Reading.{optional, Fault, Stage, afterLanguage, afterScript, afterRegion, afterRoot, accept, member, restFault, ofKind, find}
+use Rattle.standard.proofs.Bytes.{clash}
+use Rattle.standard.proofs.Faults.{kind-variant}
+use Rattle.standard.proofs.Shapes.{known}
+
+-- a subtag that can stand there, and the rest
+record Back (st : Stage) (t : Tag) (ts : List Tag) : Type 0 where
+  next : Stage
+  accepted : accept st (kindOf t) ≡ some next
+  seen : List Tag
+  at : ℕ
+  after : restFault next seen at ts ≡ none
+
+back : (st : Stage) (seen : List Tag) (at : ℕ) (t : Tag) (ts : List Tag) → restFault st seen at (t ∷ ts) ≡ none → Back st t ts
+unfolding restFault
+back st seen at t ts e = go (accept st (kindOf t)) refl (isVariant t && member t seen) refl
+  where
+    go : (o : Option Stage) → accept st (kindOf t) ≡ o → (b : Bool) → (isVariant t && member t seen) ≡ b → Back st t ts
+    go none f b g = absurd (Option·some-ne-none _ (rw (f, restFault) at e))
+    go (some n) f true g = absurd (Option·some-ne-none _ (rw (f, g, restFault) at e))
+    go (some n) f false g = record { next = n; accepted = f; seen = _; at = _; after = rw (f, g, restFault) at e }
+
+-- the stage that follows
+on : {m st : Stage} {t : Tag} {ts : List Tag} (b : Back st t ts) → _≡_ {A = Option Stage} (some m) (some (b .next)) → restFault m (b .seen) (b .at) ts ≡ none
+on {m} b e = let q : m ≡ b .next = cc in rw q (b .after)
+
+nothing : {n : Stage} {P : Type 0} → _≡_ {A = Option Stage} none (some n) → P
+nothing {n} e = absurd (Option·none-ne-some n e)
+
+-- what the searches make of one subtag more
+find-other : (k : Kind) (t : Tag) (ts : List Tag) → ofKind k (kindOf t) ≡ false → find k (t ∷ ts) ≡ find k ts
+unfolding find
+find-other k t ts e = rw (e, find)
+
+find-this : (k : Kind) (t : Tag) (ts : List Tag) → ofKind k (kindOf t) ≡ true → find k (t ∷ ts) ≡ t
+unfolding find
+find-this k t ts e = rw (e, find)
+
+only-other : (t : Tag) (ts : List Tag) → isVariant t ≡ false → only isVariant (t ∷ ts) ≡ only isVariant ts
+unfolding only
+only-other t ts e = rw (e, only)
+
+only-this : (t : Tag) (ts : List Tag) → isVariant t ≡ true → only isVariant (t ∷ ts) ≡ t ∷ only isVariant ts
+unfolding only
+only-this t ts e = rw (e, only)
+
+pub optional-one : (t : Tag) (k : Kind) → kindOf t ≡ k → known k ≡ true → optional t ≡ t ∷ []
+unfolding optional kindOf kind sizeOf known
+optional-one [] k e f = clash {b = true} refl (sym (rw (← e) at f))
+optional-one (b ∷ bs) k e f = refl
+
+-- the subtags from the variants on
+record Variants (ts : List Tag) : Type 0 where
+  script : find aScript ts ≡ []
+  region : find aRegion ts ≡ []
+  variants : ts ≡ only isVariant ts
+
+none-left : Variants []
+unfolding find only
+none-left = record { script = refl; region = refl; variants = refl }
+
+variant-first : (t : Tag) (ts : List Tag) → kindOf t ≡ aVariant → Variants ts → Variants (t ∷ ts)
+unfolding ofKind variantKind
+variant-first t ts f r = record {
+  script = find-other aScript t ts (rw f) ∙ r .script;
+  region = find-other aRegion t ts (rw f) ∙ r .region;
+  variants = ap (_∷_ t) (r .variants) ∙ sym (only-this t ts (kind-variant t aVariant f));
+}
+
+only-variants : (seen : List Tag) (at : ℕ) (ts : List Tag) → restFault afterRegion seen at ts ≡ none → Variants ts
+unfolding accept ofKind
+only-variants seen at [] e = none-left
+only-variants seen at (t ∷ ts) e =
+    let b = back afterRegion seen at t ts e in
+    go (kindOf t) refl b (b .accepted) (λ s n. only-variants s n ts)
+  where
+    go : (k : Kind) → kindOf t ≡ k → (b : Back afterRegion t ts) → accept afterRegion (kindOf t) ≡ some (b .next)
+        → ((s : List Tag) (n : ℕ) → restFault afterRegion s n ts ≡ none → Variants ts) → Variants (t ∷ ts)
+    go aVariant f b a more = variant-first t ts f (more (b .seen) (b .at) (on b (rw f at a)))
+    go aScript f b a more = nothing (rw f at a)
+    go aRegion f b a more = nothing (rw f at a)
+    go aNone f b a more = nothing (rw f at a)
+
+-- from the region on
+pub record Region (ts : List Tag) : Type 0 where
+  pub script : find aScript ts ≡ []
+  pub are : ts ≡ optional (find aRegion ts) ++ only isVariant ts
+
+variants-left : (ts : List Tag) → Variants ts → Region ts
+unfolding optional
+variants-left ts v = record { script = v .script; are = v .variants ∙ ap (λ (r : Tag). optional r ++ only isVariant ts) (sym (v .region)) }
+
+region-first : (t : Tag) (ts : List Tag) → kindOf t ≡ aRegion → Variants ts → Region (t ∷ ts)
+unfolding ofKind variantKind known
+region-first t ts f r = record {
+  script = find-other aScript t ts (rw f) ∙ r .script;
+  are = ap (_∷_ t) (r .variants)
+      ∙ sym (ap₂ (λ (x : Tag) (y : List Tag). optional x ++ y) (find-this aRegion t ts (rw f)) (only-other t ts (kind-variant t aRegion f))
+      ∙ ap (λ (x : List Tag). x ++ only isVariant ts) (optional-one t aRegion f refl));
+}
+
+pub after-script : (seen : List Tag) (at : ℕ) (ts : List Tag) → restFault afterScript seen at ts ≡ none → Region ts
+unfolding accept ofKind known
+after-script seen at [] e = variants-left [] none-left
+after-script seen at (t ∷ ts) e = let b = back afterScript seen at t ts e in go (kindOf t) refl b (b .accepted)
+  where
+    go : (k : Kind) → kindOf t ≡ k → (b : Back afterScript t ts) → accept afterScript (kindOf t) ≡ some (b .next) → Region (t ∷ ts)
+    go aVariant f b a = variants-left (t ∷ ts) (variant-first t ts f (only-variants (b .seen) (b .at) ts (on b (rw f at a))))
+    go aRegion f b a = region-first t ts f (only-variants (b .seen) (b .at) ts (on b (rw f at a)))
+    go aScript f b a = nothing (rw f at a)
+    go aNone f b a = nothing (rw f at a)
+
+-- from the script on
+abbrev pub Others : List Tag → Type 0
+Others ts = ts ≡ optional (find aScript ts) ++ (optional (find aRegion ts) ++ only isVariant ts)
+
+pub region-left : (ts : List Tag) → Region ts → Others ts
+unfolding optional
+region-left ts r = r .are ∙ ap (λ (s : Tag). optional s ++ (optional (find aRegion ts) ++ only isVariant ts)) (sym (r .script))
+
+pub after-language : (seen : List Tag) (at : ℕ) (ts : List Tag) → restFault afterLanguage seen at ts ≡ none → Others ts
+unfolding accept ofKind known variantKind
+after-language seen at [] e = region-left [] (variants-left [] none-left)
+after-language seen at (t ∷ ts) e = let b = back afterLanguage seen at t ts e in go (kindOf t) refl b (b .accepted)
+  where
+    go : (k : Kind) → kindOf t ≡ k → (b : Back afterLanguage t ts) → accept afterLanguage (kindOf t) ≡ some (b .next) → Others (t ∷ ts)
+    go aVariant f b a = region-left (t ∷ ts) (variants-left (t ∷ ts) (variant-first t ts f (only-variants (b .seen) (b .at) ts (on b (rw f at a)))))
+    go aRegion f b a = region-left (t ∷ ts) (region-first t ts f (only-variants (b .seen) (b .at) ts (on b (rw f at a))))
+    go aScript f b a =
+        let r = after-script (b .seen) (b .at) ts (on b (rw f at a)) in
+        ap (_∷_ t) (r .are)
+        ∙ sym (ap₂ (λ (x y : Tag). optional x ++ (optional y ++ only isVariant (t ∷ ts))) (find-this aScript t ts (rw f)) (find-other aRegion t ts (rw f))
+        ∙ ap₂ (λ (x y : List Tag). x ++ (optional (find aRegion ts) ++ y)) (optional-one t aScript f refl) (only-other t ts (kind-variant t aScript f)))
+    go aNone f b a = nothing (rw f at a)
+
+-- nothing follows root
+pub after-root : (seen : List Tag) (at : ℕ) (ts : List Tag) → restFault afterRoot seen at ts ≡ none → ts ≡ []
+unfolding accept
+after-root seen at [] e = refl
+after-root seen at (t ∷ ts) e = let b = back afterRoot seen at t ts e in nothing (b .accepted)

@@ -1,0 +1,12 @@
+-- `reader::report::filled` meets its contract. Assumes nothing.
+use mathlib.Core.Path.{_≡_, refl, sym, _∙_}
+use Rattle.reader.specs.Words.{reportIs, partsReport}
+use Rattle.reader.proofs.report.filled.Statement.{statement}
+use Rattle.reader.proofs.report.filled.Tie as tie
+
+returns : tie.Need-returns
+unfolding reportIs partsReport
+returns c = refl
+
+pub filled-spec : {M : Type 1} → statement M
+filled-spec = tie.close (tie.spec returns)

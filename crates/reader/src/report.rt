@@ -1,0 +1,156 @@
+// What reading reports: number and place, language, script and region in canonical case, and the counts.
+use crate::Parts;
+use crate::Reading;
+use crate::Start;
+ghost use mathlib.Core.Path.{_≡_};
+ghost use mathlib.Core.Option.{none};
+ghost use mathlib.Core.List.{[]};
+ghost use Prim.Native.Nat.{_≤_};
+ghost use lib.ListN.{length, drop};
+ghost use Rattle.standard.specs.Tag.{label};
+ghost use Rattle.standard.specs.Identifier.{und as undTag};
+ghost use Rattle.standard.specs.Reading.{split, good, bad, faultOf, identifierOf};
+ghost use Rattle.standard.specs.Report.{report, reportOf};
+ghost use Rattle.reader.specs.Parts.{partsOf};
+ghost use Rattle.reader.specs.Words.{wordIs, reportIs, raised, raisedByte, laterWord, LaterFits, refusedReport, partsReport};
+
+// A subtag: its first `len` bytes.
+pub struct Word {
+    pub bytes: [u8; 8],
+    pub len: usize,
+}
+
+pub struct Report {
+    pub number: u8,
+    pub place: usize,
+    pub language: Word,
+    pub script: Word,
+    pub region: Word,
+    pub variants: usize,
+    pub extensions: usize,
+}
+
+// The byte at the index i, of which the first `capitals` are capitals.
+fn cased(b: u8, i: usize, capitals: usize) -> u8
+    ensures { λ r. ⌜ r ≡ raisedByte i capitals b ⌝ }
+{
+    if i < capitals {
+        return subtag::upper(b);
+    }
+    b
+}
+
+// The subtag at the front of rest, its first `capitals` bytes as capitals.
+fn word_of(rest: &[u8], capitals: usize) -> Word
+    requires { ⌜ length (label (split (now rest))) ≤ 8 ⌝ }
+    ensures { λ r. ⌜ wordIs r ≡ raised capitals (label (split (now (rest .entry)))) ⌝ }
+{
+    let mut bytes = [0u8; 8];
+    let mut len: usize = 0;
+    while len < rest.len() {
+        let b = rest[len];
+        if subtag::is_separator(b) {
+            return Word { bytes, len };
+        }
+        bytes[len] = cased(subtag::lower(b), len, capitals);
+        len += 1;
+    }
+    Word { bytes, len }
+}
+
+// No subtag.
+fn absent() -> Word
+    ensures { λ r. ⌜ wordIs r ≡ [] ⌝ }
+{
+    Word {
+        bytes: [0u8; 8],
+        len: 0,
+    }
+}
+
+// The word `und`.
+fn und() -> Word
+    ensures { λ r. ⌜ wordIs r ≡ undTag ⌝ }
+{
+    Word {
+        bytes: [117, 110, 100, 0, 0, 0, 0, 0],
+        len: 3,
+    }
+}
+
+// The subtag behind the separator at `from`, where a part goes from there to `to`.
+fn later(id: &[u8], from: usize, to: usize, capitals: usize) -> Word
+    requires { ⌜ LaterFits from to (now id) ⌝ }
+    ensures { λ r. ⌜ wordIs r ≡ laterWord capitals from to (now (id .entry)) ⌝ }
+{
+    if from < to {
+        let at = from + 1;
+        return word_of(&id[at..], capitals);
+    }
+    absent()
+}
+
+fn refusal(number: u8, place: usize) -> Report
+    ensures { λ r. ⌜ reportIs r ≡ refusedReport number place ⌝ }
+{
+    Report {
+        number,
+        place,
+        language: absent(),
+        script: absent(),
+        region: absent(),
+        variants: 0,
+        extensions: 0,
+    }
+}
+
+fn filled(p: Parts, language: Word, script: Word, region: Word) -> Report
+    ensures { λ r. ⌜ reportIs r ≡ partsReport p (wordIs language) (wordIs script) (wordIs region) ⌝ }
+{
+    Report {
+        number: 0,
+        place: 0,
+        language,
+        script,
+        region,
+        variants: p.variant_count,
+        extensions: p.extension_count,
+    }
+}
+
+// The report of an accepted identifier.
+fn report_parts(id: &[u8], p: Parts) -> Report
+    requires { ⌜ (faultOf (now id) ≡ none) × (p ≡ partsOf (split (now id))) ⌝ }
+    ensures { λ r. ⌜ reportIs r ≡ reportOf (good (identifierOf (split (now (id .entry))))) ⌝ }
+{
+    let start = p.start;
+    match start {
+        Start::Language => {
+            let script = later(id, p.language, p.script, 1);
+            let region = later(id, p.script, p.region, 8);
+            filled(p, word_of(id, 0), script, region)
+        }
+        Start::Script => {
+            let region = later(id, p.script, p.region, 8);
+            filled(p, und(), word_of(id, 1), region)
+        }
+        Start::Root => filled(p, und(), absent(), absent()),
+    }
+}
+
+// Reads an identifier.
+pub fn read(id: &[u8]) -> Report
+    ensures { λ r. ⌜ reportIs r ≡ report (now (id .entry)) ⌝ }
+{
+    let r = crate::read_parts(id);
+    match r {
+        Reading::Read(p) => report_parts(id, p),
+        Reading::Empty => refusal(1, 0),
+        Reading::TooLong => refusal(2, 0),
+        Reading::BadByte(at) => refusal(3, at),
+        Reading::BadSize(at) => refusal(4, at),
+        Reading::Misplaced(at) => refusal(5, at),
+        Reading::Repeated(at) => refusal(6, at),
+        Reading::Unfinished(at) => refusal(7, at),
+    }
+}

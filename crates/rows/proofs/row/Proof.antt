@@ -1,0 +1,50 @@
+-- `rows::row` meets its contract, table by table. Assumes nothing.
+use Rattle.rows.specs.Rows.{shapeOf}
+use Rattle.rows.proofs.Passes.{row-is}
+use borrow.Author.Needs.{needs}
+use Rattle.rows.proofs.row.Statement.{statement}
+use Rattle.rows.proofs.row.Tie as tie
+
+enum-told : tie.Need-enum-told
+enum-told c = search needs
+
+alias-row-requires : tie.Need-alias-row-requires
+alias-row-requires c κs = search needs
+
+enum-told-2 : tie.Need-enum-told-2
+enum-told-2 c = search needs
+
+likely-row-requires : tie.Need-likely-row-requires
+likely-row-requires c κs = search needs
+
+enum-told-3 : tie.Need-enum-told-3
+enum-told-3 c = search needs
+
+parent-row-requires : tie.Need-parent-row-requires
+parent-row-requires c κs = search needs
+
+returns : tie.Need-returns
+unfolding shapeOf
+returns c = row-is _ _ _ (c .before .enum-told .given .1) (c .alias-row .ensures)
+
+returns-2 : tie.Need-returns-2
+unfolding shapeOf
+returns-2 c = row-is _ _ _ (c .before .enum-told2 .given .1) (c .likely-row .ensures)
+
+returns-3 : tie.Need-returns-3
+unfolding shapeOf
+returns-3 c = row-is _ _ _ (c .before .enum-told3 .given .1) (c .parent-row .ensures)
+
+pub row-spec : {M : Type 1} → statement M
+row-spec =
+    tie.close
+    (tie.spec
+    enum-told
+    alias-row-requires
+    enum-told-2
+    likely-row-requires
+    enum-told-3
+    parent-row-requires
+    returns
+    returns-2
+    returns-3)

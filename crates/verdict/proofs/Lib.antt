@@ -1,0 +1,5 @@
+pub mod Slots
+pub mod Frees
+pub mod Walks
+pub mod Clashes
+pub mod Ordered

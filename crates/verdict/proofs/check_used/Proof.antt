@@ -1,0 +1,68 @@
+-- `verdict::check_used` meets its contract. Assumes nothing.
+use mathlib.Core.Path.{sym, ap, _∙_}
+use Rattle.verdict.specs.Verdicts.{verdictIs}
+use Rattle.verdict.proofs.Ordered.{first-bad, second-bad, third, check-parts, shaped}
+use borrow.Author.Needs.{needs}
+use Rattle.verdict.proofs.check_used.Statement.{statement}
+use Rattle.verdict.proofs.check_used.Tie as tie
+
+check-sizes-requires : tie.Need-check-sizes-requires
+check-sizes-requires c κs = search needs
+
+enum-told : tie.Need-enum-told
+enum-told c = search needs
+
+enum-told-2 : tie.Need-enum-told-2
+enum-told-2 c = search needs
+
+returns : tie.Need-returns
+returns c =
+    let f = c .before .before in
+    let a = f .before .before .before .before .args in
+    first-bad _ _ _ _ (f .check-sizes .ensures) (c .enum-told2 .given .1) ∙ check-parts (a .use-l) (a .use-p) (a .a .now) (a .l .now) (a .p .now)
+
+check-shapes-requires : tie.Need-check-shapes-requires
+check-shapes-requires c κs = search needs
+
+enum-told-3 : tie.Need-enum-told-3
+enum-told-3 c = search needs
+
+enum-told-4 : tie.Need-enum-told-4
+enum-told-4 c = search needs
+
+returns-2 : tie.Need-returns-2
+returns-2 c =
+    let g = c .before .before in
+    let t = g .before in
+    let f = t .before .before in
+    let a = f .before .before .before .before .args in
+    second-bad _ _ _ _ (f .check-sizes .ensures) (t .enum-told .given .1) _ (g .check-shapes .ensures) (c .enum-told4 .given .1) ∙ check-parts (a .use-l) (a .use-p) (a .a .now) (a .l .now) (a .p .now)
+
+check-clashes-requires : tie.Need-check-clashes-requires
+check-clashes-requires c κs =
+    let g = c .before .before in
+    shaped _ _ _ _ _ (sym (g .check-shapes .ensures) ∙ ap verdictIs (c .enum-told3 .given .1))
+
+returns-3 : tie.Need-returns-3
+returns-3 c =
+    let u = c .before in
+    let g = u .before .before in
+    let t = g .before in
+    let f = t .before .before in
+    let a = f .before .before .before .before .args in
+    third _ _ _ _ (f .check-sizes .ensures) (t .enum-told .given .1) _ (c .check-clashes .result) (g .check-shapes .ensures) (u .enum-told3 .given .1) (c .check-clashes .ensures) ∙ check-parts (a .use-l) (a .use-p) (a .a .now) (a .l .now) (a .p .now)
+
+pub check-used-spec : {M : Type 1} → statement M
+check-used-spec =
+    tie.close
+    (tie.spec
+    check-sizes-requires
+    enum-told
+    enum-told-2
+    returns
+    check-shapes-requires
+    enum-told-3
+    enum-told-4
+    returns-2
+    check-clashes-requires
+    returns-3)

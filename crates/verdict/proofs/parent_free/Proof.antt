@@ -1,0 +1,82 @@
+-- `verdict::parent_free` meets its contract. Assumes nothing.
+use native.Mathlib.Omega.{arith}
+use borrow.Author.Tests.{not-true, not-false}
+use mathlib.Core.Path.{sym, ap, _∙_}
+use Prim.Native.Nat.{_-_, _≤_}
+use Rattle.verdict.specs.Walk.{cut, reachesFrom}
+use Rattle.verdict.proofs.Clashes.{TwoLine, two-line, parent-value, parent-walk, key-cut, cut-size}
+use borrow.Author.Needs.{needs}
+use Rattle.verdict.proofs.parent_free.Statement.{statement}
+use Rattle.verdict.proofs.parent_free.Tie as tie
+
+sub-two-free : tie.Need-sub-two-free
+sub-two-free c = search needs
+
+part-two-free-start : tie.Need-part-two-free-start
+part-two-free-start c = search needs
+
+part-two-free-end : tie.Need-part-two-free-end
+part-two-free-end c = search needs
+
+two-free-requires : tie.Need-two-free-requires
+two-free-requires c κs = search needs
+
+returns : tie.Need-returns
+returns c = parent-value _ _ _ (sym (c .before .two-free .ensures) ∙ not-true _ (c .if1 .taken))
+
+sub-end-of : tie.Need-sub-end-of
+sub-end-of c = search needs
+
+part-end-of-start : tie.Need-part-end-of-start
+part-end-of-start c = search needs
+
+part-end-of-end : tie.Need-part-end-of-end
+part-end-of-end c = search needs
+
+end-of-requires : tie.Need-end-of-requires
+end-of-requires c κs = search needs
+
+-- the fields of the row
+fields : (c : tie.After-end-of) → TwoLine (cut (c .before .before .before .before .before .before .before .before .args .p .now) (c .before .before .before .before .before .before .before .before .args .i) (c .before .before .before .before .before .before .before .before .args .e)) (c .end-of .result)
+fields c = two-line _ _ (c .end-of .ensures) (c .before .before .before .before .before .before .before .before .pre .5)
+
+key : (c : tie.After-end-of) → c .end-of .result ≤ c .before .before .before .before .before .before .before .before .args .e - c .before .before .before .before .before .before .before .before .args .i
+key c =
+    let s = c .before .before .before .before .before .before .before .before in
+    let n = cut-size (s .args .p .now) (s .args .i) (s .args .e) (s .pre .3) (s .pre .4) in
+    let h = fields c .room in
+    omega arith
+
+add-reaches-root : tie.Need-add-reaches-root
+add-reaches-root c = omega (arith, key c)
+
+reaches-root-requires : tie.Need-reaches-root-requires
+reaches-root-requires c κs =
+    let s = c .before .before .before .before .before .before .before .before in
+    let a = s .args in
+    (s .pre .1, s .pre .2, omega arith, omega (arith, key c), rw (key-cut (a .p .now) (a .i) (a .e) (c .end-of .result) (key c)) (fields c .key))
+
+returns-2 : tie.Need-returns-2
+returns-2 c =
+    let e = c .before in
+    let i = e .before .before in
+    let s = i .before .before .before .before .before .before in
+    let a = s .args in
+    parent-walk _ _ _ (c .reaches-root .result) (sym (i .before .two-free .ensures) ∙ not-false _ (i .if1 .left)) (c .reaches-root .ensures ∙ ap (reachesFrom (a .p .now) 8) (key-cut (a .p .now) (a .i) (a .e) (e .end-of .result) (key e) ∙ sym (fields e .first)))
+
+pub parent-free-spec : {M : Type 1} → statement M
+parent-free-spec =
+    tie.close
+    (tie.spec
+    sub-two-free
+    part-two-free-start
+    part-two-free-end
+    two-free-requires
+    returns
+    sub-end-of
+    part-end-of-start
+    part-end-of-end
+    end-of-requires
+    add-reaches-root
+    reaches-root-requires
+    returns-2)

@@ -1,0 +1,87 @@
+-- 14: rows that do not clash, by the keys of the aliases. Each definition equals the standard's over rows that have their
+-- shape (proofs/).
+-- Assumes nothing.
+use mathlib.Core.Path.{_≡_}
+use mathlib.Core.Bool.{Bool, false, not, _&&_}
+use mathlib.Core.List.{List, [], _∷_}
+use Prim.Native.Nat.{ℕ, _≤_}
+use lib.Dec.{eqb}
+use lib.ListN.{length}
+use Rattle.standard.specs.Tag.{Tag, label}
+use Rattle.standard.specs.Identifier.{Three, Tables}
+use Rattle.standard.specs.Reading.{Fault, fault}
+use Rattle.rows.specs.declared.Table.{Table}
+use Rattle.rows.specs.declared.Table.the-variants.{Aliases, Likely, Parents}
+use Rattle.standard.specs.Table.{parse, isThree, aliasFree, likelyFree, parentFree}
+use Rattle.standard.proofs.Tags.{All}
+use Rattle.table.specs.Search.{Sorted}
+use Rattle.rows.specs.declared.AliasKind.{AliasKind}
+use Rattle.rows.specs.declared.AliasKind.the-variants.{Language, Script, Region, Variant, Unknown}
+use Rattle.rows.specs.Rows.{kindNamed}
+use Rattle.verdict.specs.declared.Clash.{Clash}
+use Rattle.verdict.specs.declared.Clash.the-variants.{Free, At}
+use Rattle.verdict.specs.Marks.{isKey, Marked}
+use Rattle.verdict.specs.Walk.{reachesFrom}
+use mathlib.Core.Option.{Option, none}
+
+-- aliases that can be searched, with their marks
+pub record Ready (A marks : List ℕ) : Type 0 where
+  pub sorted : Sorted A
+  pub room : length marks ≡ 32768
+  pub marked : Marked A marks
+
+-- a subtag that may be asked for: short, and without a tab
+pub record Plain (t : Tag) : Type 0 where
+  pub small : length t ≤ 16
+  pub free : All (λ (b : ℕ). eqb b 9 ≡ false) t
+
+-- no language, script or region that aliases replace
+unfoldable pub freeThree : List ℕ → Three → Bool
+freeThree A t = not (isKey A Language (t .language)) && (not (isKey A Script (t .script)) && not (isKey A Region (t .region)))
+
+-- the subtag of an alias value of the row's own kind
+unfoldable pub ownTag : AliasKind → Tag → Tag
+ownTag Language v = (parse v) .language
+ownTag Script v = v
+ownTag Region v = v
+ownTag Variant v = v
+ownTag Unknown v = v
+
+unfoldable pub freeAlias : List ℕ → List Tag → Bool
+freeAlias A [] = false
+freeAlias A (a ∷ []) = false
+freeAlias A (a ∷ b ∷ []) = false
+freeAlias A (kind ∷ key ∷ value ∷ []) = not (isKey A (kindNamed kind) (ownTag (kindNamed kind) value))
+freeAlias A (a ∷ b ∷ c ∷ d ∷ ts) = false
+
+-- two fields, each language, perhaps script, perhaps region
+unfoldable pub isThrees : List Tag → Bool
+isThrees [] = false
+isThrees (a ∷ []) = false
+isThrees (key ∷ value ∷ []) = isThree key && isThree value
+isThrees (a ∷ b ∷ c ∷ ts) = false
+
+unfoldable pub secondOf : List Tag → Tag
+secondOf [] = []
+secondOf (a ∷ []) = []
+secondOf (a ∷ b ∷ ts) = b
+
+unfoldable pub freeParent : List ℕ → List ℕ → List Tag → Bool
+freeParent A P ts = freeThree A (parse (secondOf ts)) && reachesFrom P 8 (label ts)
+
+-- a row of the table t that does not clash
+unfoldable pub freeRow : Table → List ℕ → List ℕ → List Tag → Bool
+freeRow Aliases A t ts = freeAlias A ts
+freeRow Likely A t ts = freeThree A (parse (secondOf ts))
+freeRow Parents A t ts = freeParent A t ts
+
+-- the standard's test of a row
+unfoldable pub freeOf : Table → Tables → List Tag → Bool
+freeOf Aliases T ts = aliasFree T ts
+freeOf Likely T ts = likelyFree T ts
+freeOf Parents T ts = parentFree T ts
+
+-- the standard's fault that an answer stands for
+abbrev pub clashIs : Clash → Option Fault
+clashIs Free = none
+clashIs (At place) = fault 14 place

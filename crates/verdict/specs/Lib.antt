@@ -1,0 +1,4 @@
+pub mod Marks
+pub mod Walk
+pub mod Free
+pub mod Verdicts

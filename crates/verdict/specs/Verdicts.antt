@@ -1,0 +1,44 @@
+-- The answer of the check of the tables, and its three parts in order.
+-- Assumes nothing.
+use mathlib.Core.Path.{_≡_}
+use mathlib.Core.Bool.{Bool, true}
+use mathlib.Core.List.{List}
+use mathlib.Core.Option.{Option, none, some}
+use Prim.Native.Nat.{ℕ}
+use Rattle.standard.specs.Table.{TableFault, rows, tablesOf, tooBig, rowsFault, clashFault, aliasShape, likelyShape, parentShape, aliasFree, likelyFree, parentFree, inTable, firstTable}
+use Rattle.rows.specs.declared.Table.{Table}
+use Rattle.rows.specs.declared.Table.the-variants.{Aliases, Likely, Parents}
+use Rattle.rows.specs.Rows.{shapeOf}
+use Rattle.verdict.specs.declared.Verdict.{Verdict}
+use Rattle.verdict.specs.declared.Verdict.the-variants.{Good, Bad}
+
+-- the standard's fault that an answer stands for: its number, its table and its place
+abbrev pub verdictIs : Verdict → Option TableFault
+verdictIs Good = none
+verdictIs (Bad number table place) = some (record { fault = record { number = number; place = place }; table = table })
+
+abbrev pub numberOf : Table → ℕ
+numberOf Aliases = 1
+numberOf Likely = 2
+numberOf Parents = 3
+
+-- 11, then 12 and 13 row by row, then 14, each table by table
+unfoldable pub sizesFault : Bool → Bool → List ℕ → List ℕ → List ℕ → Option TableFault
+sizesFault useL useP A L P = firstTable (inTable true 1 (tooBig A)) (firstTable (inTable useL 2 (tooBig L)) (inTable useP 3 (tooBig P)))
+
+unfoldable pub shapesFault : Bool → Bool → List ℕ → List ℕ → List ℕ → Option TableFault
+shapesFault useL useP A L P =
+    firstTable (inTable true 1 (rowsFault aliasShape none 0 (rows A)))
+    (firstTable (inTable useL 2 (rowsFault likelyShape none 0 (rows L))) (inTable useP 3 (rowsFault parentShape none 0 (rows P))))
+
+unfoldable pub clashesFault : Bool → Bool → List ℕ → List ℕ → List ℕ → Option TableFault
+clashesFault useL useP A L P =
+    let T = tablesOf A L P in
+    firstTable (inTable true 1 (clashFault (aliasFree T) 0 (rows A)))
+    (firstTable (inTable useL 2 (clashFault (likelyFree T) 0 (rows L))) (inTable useP 3 (clashFault (parentFree T) 0 (rows P))))
+
+-- the tables that are used pass 12 and 13
+pub record Shaped (useL useP : Bool) (A L P : List ℕ) : Type 0 where
+  pub aliases : rowsFault (shapeOf Aliases) none 0 (rows A) ≡ none
+  pub likely : useL ≡ true → rowsFault (shapeOf Likely) none 0 (rows L) ≡ none
+  pub parents : useP ≡ true → rowsFault (shapeOf Parents) none 0 (rows P) ≡ none
