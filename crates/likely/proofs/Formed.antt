@@ -75,7 +75,7 @@ pub record Canonicalised (A x : Bytes) (f : Form) (buf : Bytes) : Type 0 where
 form-one : {f g : Form} {x y : Bytes} → formed-as f x ≡ formed-as g y → (f ≡ g) × (x ≡ y)
 form-one e = (cc, cc)
 
-form-not : {f : Form} {x : Bytes} {n p : ℕ} {P : Type 0} → formed-as f x ≡ refused-as n p → P
+pub form-not : {f : Form} {x : Bytes} {n p : ℕ} {P : Type 0} → formed-as f x ≡ refused-as n p → P
 form-not e = let z : _≡_ {A = ℕ} 0 1 = cc in absurd (omega arith)
 
 some-one : {p q : Parts} → _≡_ {A = Option Parts} (some p) (some q) → p ≡ q
@@ -180,7 +180,7 @@ by-slices b L p rest l s r d G out el es er ed h k =
     h (subst (ReadyFor L) (sym e) k) ∙ ap₂ (λ (x : Bytes) (q : Parts). given (madeParts b L x q) out) ed e
 
 -- A refusal of canonicalising stands.
-refusal-form : (c : Canon) (buf : Bytes) → OneOf (1 ∷ 2 ∷ 3 ∷ 4 ∷ 5 ∷ 6 ∷ 7 ∷ 8 ∷ []) (tagOf the-type c) → (n : ℕ) × (p : ℕ) × (outcomeOf c [] ≡ refused-as n p) × (outcomeOf c buf ≡ refused-as n p)
+pub refusal-form : (c : Canon) (buf : Bytes) → OneOf (1 ∷ 2 ∷ 3 ∷ 4 ∷ 5 ∷ 6 ∷ 7 ∷ 8 ∷ []) (tagOf the-type c) → (n : ℕ) × (p : ℕ) × (outcomeOf c [] ≡ refused-as n p) × (outcomeOf c buf ≡ refused-as n p)
 unfolding outcomeOf
 refusal-form (Formed f) buf k = absurd (miss (1 ∷ 2 ∷ 3 ∷ 4 ∷ 5 ∷ 6 ∷ 7 ∷ 8 ∷ []) 0 tt k)
 refusal-form Empty buf k = (1, 0, refl, refl)
@@ -192,7 +192,7 @@ refusal-form (Repeated at) buf k = (6, at, refl, refl)
 refusal-form (Unfinished at) buf k = (7, at, refl, refl)
 refusal-form Overlong buf k = (9, 0, refl, refl)
 
-refusal-one : {m n p q : ℕ} → refused-as m p ≡ refused-as n q → (m ≡ n) × (p ≡ q)
+pub refusal-one : {m n p q : ℕ} → refused-as m p ≡ refused-as n q → (m ≡ n) × (p ≡ q)
 refusal-one e = (cc, cc)
 
 refused-made : (A L x : Bytes) (b : Bool) (n p : ℕ) → outcome A x ≡ refused-as n p → make (tablesOf A L []) (operationOf b) x ≡ refusal n p 0

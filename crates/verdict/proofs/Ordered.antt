@@ -11,6 +11,7 @@ use borrow.Author.Tests.{le-leb, lt-leb}
 use Rattle.standard.specs.Reading.{Fault, fault}
 use Rattle.standard.specs.Table.{TableFault, rows, tablesOf, tooBig, rowsFault, clashFault, aliasShape, likelyShape, parentShape, aliasFree, likelyFree, parentFree, inTable, firstTable, check}
 use Rattle.standard.proofs.Bytes.{clash}
+use Rattle.table.specs.Search.{Sorted}
 use Rattle.rows.specs.declared.Table.{Table}
 use Rattle.rows.specs.declared.Table.the-variants.{Aliases, Likely, Parents}
 use Rattle.rows.specs.Rows.{shapeOf}
@@ -117,3 +118,20 @@ module _ (useL useP : Bool) (A L P : List ℕ) (s : Shaped useL useP A L P) wher
   pub clash-parents : inTable useP (numberOf Parents) (clashFault (freeRow Parents A P) 0 (rows P)) ≡ inTable useP 3 (clashFault (parentFree (tablesOf A L P)) 0 (rows P))
   unfolding freeRow freeOf
   clash-parents = clash-table A L P P Parents useP refl (s .parents)
+
+-- What a check that passes gives to those who look rows up: sorted tables.
+pub record SortedTables (useL useP : Bool) (A L P : List ℕ) : Type 0 where
+  pub aliases : Sorted A
+  pub likely : useL ≡ true → Sorted L
+  pub parents : useP ≡ true → Sorted P
+
+pub check-shaped : (useL useP : Bool) (A L P : List ℕ) → check useL useP A L P ≡ none → Shaped useL useP A L P
+check-shaped useL useP A L P e =
+    let f = first-none (sizesFault useL useP A L P) (firstTable (shapesFault useL useP A L P) (clashesFault useL useP A L P)) (check-parts useL useP A L P ∙ e) in
+    let g = first-none (shapesFault useL useP A L P) (clashesFault useL useP A L P) (f .1) in
+    shaped useL useP A L P (g .0)
+
+pub check-sorted : (useL useP : Bool) (A L P : List ℕ) → check useL useP A L P ≡ none → SortedTables useL useP A L P
+check-sorted useL useP A L P e =
+    let s = check-shaped useL useP A L P e in
+    record { aliases = sorted Aliases A (s .aliases); likely = λ u. sorted Likely L (s .likely u); parents = λ u. sorted Parents P (s .parents u) }

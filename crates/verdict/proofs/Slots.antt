@@ -32,7 +32,7 @@ module _ (h : ℕ) (t : List ℕ) (i : ℕ) where
   unfolding slotFrom
   slot-end g = rw (drop-of-length-le t g)
 
-  pub slot-next : (b : ℕ) → i < length t → b ≡ getD t i 0 → slotFrom h (drop i t) ≡ slotFrom ((h * 37 + b) % 32768) (drop (i + 1) t)
+  pub slot-next : (b : ℕ) → i < length t → b ≡ getD t i 0 → slotFrom h (drop i t) ≡ slotFrom ((h * 67 + b) % 32768) (drop (i + 1) t)
   unfolding slotFrom
   slot-next b g e = rw (add-one, drop-cons t i 0 g, e)
 

@@ -35,7 +35,7 @@ seedOf Unknown = 5
 
 unfoldable pub slotFrom : ℕ → Tag → ℕ
 slotFrom h [] = h
-slotFrom h (b ∷ bs) = slotFrom ((h * 37 + b) % 32768) bs
+slotFrom h (b ∷ bs) = slotFrom ((h * 67 + b) % 32768) bs
 
 unfoldable pub slotOf : AliasKind → Tag → ℕ
 slotOf k t = slotFrom (seedOf k) t

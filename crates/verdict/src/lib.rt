@@ -46,7 +46,7 @@ fn slot(kind: AliasKind, tag: &[u8]) -> usize
     let mut h = seed(kind);
     let mut i = 0;
     while i < tag.len() {
-        h = (h * 37 + wide(tag[i])) % 32768;
+        h = (h * 67 + wide(tag[i])) % 32768;
         i += 1;
     }
     h

@@ -1,0 +1,63 @@
+// The chain of parents over tables that were tested. The public operation and the programs come through here.
+use crate::lines::Listed;
+use crate::lines::list;
+use canonical::form::Canon;
+use canonical::form::Form;
+use canonical::form::canonical_form;
+ghost use mathlib.Core.Path.{_≡_};
+ghost use mathlib.Core.Bool.{false, true};
+ghost use mathlib.Core.List.{List, []};
+ghost use mathlib.Core.Option.{none};
+ghost use Prim.Native.Nat.{ℕ, _+_, _≤_};
+ghost use lib.ListN.{length, take};
+ghost use Rattle.standard.specs.Delivery.{given};
+ghost use Rattle.standard.specs.Identifier.{und};
+ghost use Rattle.standard.specs.Reading.{read};
+ghost use Rattle.standard.specs.Table.{tablesOf};
+ghost use Rattle.standard.specs.Make.{chainFrom};
+ghost use Rattle.table.specs.Search.{Sorted};
+ghost use Rattle.parents.specs.Texts.{chainText};
+ghost use Rattle.parents.specs.Listed.{Lists};
+ghost use Rattle.parents.specs.Answered.{TestedChain, givenAnswered};
+
+// The refusal of canonicalising, which stands, or the listing.
+pub enum Answered {
+    Refused(Canon),
+    Lines(Listed),
+}
+
+// A buffer for the canonical form.
+fn blank() -> [u8; 512]
+    ensures { λ r. ⌜ length r ≡ 512 ⌝ }
+{
+    [0u8; 512]
+}
+
+// Lists the canonical form in buf without its extensions, and its parents.
+fn list_form<'a>(
+    buf: &'a [u8],
+    f: Form,
+    parents: &'a [u8],
+    root: &'a [u8],
+    out: &mut [u8],
+) -> Listed
+    requires { ⌜ (f .variants ≤ length (now buf)) × (length (now buf) ≤ 512) × (f .count ≤ 255) × (length (now parents) ≤ 32768) × (now root ≡ und) ⌝ }
+    ensures { λ r. ⌜ (Sorted (now (parents .entry)) → Lists 0 (now (out .entry)) (chainText (now (parents .entry)) (f .count + 10) (f .count) (take (f .variants) (now (buf .entry)))) r (now (out .exit))) ⌝ }
+{
+    let n = f.variants;
+    let count = f.count;
+    list(&buf[..n], count, parents, root, count + 10, out, 0)
+}
+
+// The chain of an identifier: it first canonicalises.
+pub fn chain_tested(id: &[u8], aliases: &[u8], parents: &[u8], out: &mut [u8]) -> Answered
+    requires { ⌜ TestedChain (now aliases) (now parents) ⌝ }
+    ensures { λ r. ⌜ givenAnswered r (now (out .exit)) ≡ given (chainFrom (tablesOf (now (aliases .entry)) [] (now (parents .entry))) (read (now (id .entry)))) (now (out .entry)) ⌝ }
+{
+    let mut buf = blank();
+    let c = canonical_form(id, aliases, &mut buf);
+    let Canon::Formed(f) = c else {
+        return Answered::Refused(c);
+    };
+    Answered::Lines(list_form(&buf, f, parents, b"und", out))
+}

@@ -1,0 +1,17 @@
+-- Answers as numbers.
+-- Assumes nothing.
+use mathlib.Core.Bool.{cond}
+use mathlib.Core.Option.{Option, none, some}
+use Prim.Native.Nat.{ℕ, _+_, _*_, _%_}
+use lib.Dec.{leb}
+use Rattle.standard.specs.Table.{Found as Located, TableFault}
+
+unfoldable pub foundCode : Located → ℕ
+foundCode f =
+    cond (leb 2147483648 (f .start)) 18446744073709551615
+    (cond (leb 2147483648 (f .len)) 18446744073709551615
+    (cond (f .found) (1 + f .start * 2 + f .len * 4294967296) (f .start * 2 + f .len * 4294967296)))
+
+unfoldable pub faultCode : Option TableFault → ℕ
+faultCode none = 0
+faultCode (some f) = f .fault .number + f .table * 256 + f .fault .place % 65536 * 65536

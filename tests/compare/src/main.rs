@@ -1,0 +1,117 @@
+//! Holds the proved functions against the second program on many inputs. Seeded, bounded, repeatable; the last line is
+//! `N passed, M failed`.
+
+mod probe;
+
+use second::gen::{self, Rng};
+use std::collections::BTreeMap;
+
+/// What was compared, and what differed.
+#[derive(Default)]
+struct Tally {
+    passed: usize,
+    failed: usize,
+    numbers: BTreeMap<u8, usize>,
+}
+
+impl Tally {
+    fn note<T: PartialEq + std::fmt::Debug>(&mut self, what: &str, ours: T, theirs: T, input: &[&[u8]]) {
+        if ours == theirs {
+            self.passed += 1;
+            return;
+        }
+        self.failed += 1;
+        if self.failed <= 10 {
+            println!("{what}: ours {ours:?}, second {theirs:?}");
+            for part in input {
+                println!("  {}", String::from_utf8_lossy(part).escape_debug());
+            }
+        }
+    }
+}
+
+/// A key: one that a row has, a part of one, another table's, or any bytes.
+fn key(rng: &mut Rng, table: &[u8]) -> Vec<u8> {
+    let lines: Vec<&[u8]> = table.split(|b| *b == 10).collect();
+    let line = lines[rng.below(lines.len())];
+    let tabs: Vec<usize> = (0..line.len()).filter(|i| line[*i] == 9).collect();
+    match rng.below(8) {
+        0 => line.to_vec(),
+        1 => line[..rng.below(line.len() + 1)].to_vec(),
+        2 => b"und-Latn".to_vec(),
+        3 => (0..rng.below(4)).map(|_| rng.next() as u8).collect(),
+        4 => Vec::new(),
+        _ if tabs.is_empty() => line.to_vec(),
+        _ => line[..tabs[rng.below(tabs.len())]].to_vec(),
+    }
+}
+
+/// Tables that no generator makes: lengths at the limit, no 0A, only 0A, tabs, high bytes.
+fn odd_tables(rng: &mut Rng) -> Vec<Vec<u8>> {
+    let mut tables = vec![Vec::new(), vec![10], vec![9], vec![0xFF], vec![10; 40], vec![9; 40], b"en\ten-Latn-US".to_vec()];
+    for n in [32767, 32768, 32769, 32770] {
+        tables.push(vec![b'a'; n]);
+        tables.push(vec![10; n]);
+        let mut rows: Vec<u8> = Vec::new();
+        let mut k = 0;
+        while rows.len() + 20 < n {
+            let name = [b'a' + (k / 676 % 26) as u8, b'a' + (k / 26 % 26) as u8, b'a' + (k % 26) as u8];
+            rows.extend_from_slice(&name);
+            rows.extend_from_slice(b"\txx-Latn-US\n");
+            k += 1;
+        }
+        while rows.len() + 1 < n {
+            rows.push(b'z');
+        }
+        rows.push(10);
+        tables.push(rows);
+    }
+    for _ in 0..200 {
+        tables.push((0..rng.below(60)).map(|_| *b"\t\n-_aeuz09AZ\xFF".get(rng.below(13)).unwrap()).collect());
+    }
+    tables
+}
+
+fn compare_tables(rounds: usize) -> Tally {
+    let mut rng = Rng::new(20_261_115);
+    let mut tally = Tally::default();
+    for round in 0..rounds {
+        let (mut a, mut l, mut p) = if rng.chance(1, 2) { gen::good_tables(&mut rng) } else { gen::tables(&mut rng) };
+        if rng.chance(1, 2) {
+            match rng.below(3) {
+                0 => a = gen::bad_table(&mut rng, a),
+                1 => l = gen::bad_table(&mut rng, l),
+                _ => p = gen::bad_table(&mut rng, p),
+            }
+        }
+        let theirs = second::check(&a, &l, &p);
+        *tally.numbers.entry(theirs.number).or_default() += 1;
+        tally.note("check", probe::check(&a, &l, &p), theirs, &[&a, &l, &p]);
+        let t = [&a, &l, &p][round % 3];
+        let k = key(&mut rng, t);
+        tally.note("lookup", probe::lookup(t, &k), second::lookup(t, &k), &[t, &k]);
+    }
+    let odd = odd_tables(&mut rng);
+    let (a, l, p) = gen::good_tables(&mut rng);
+    for t in &odd {
+        tally.note("check", probe::check(t, &l, &p), second::check(t, &l, &p), &[t]);
+        tally.note("check", probe::check(&a, t, &p), second::check(&a, t, &p), &[t]);
+        tally.note("check", probe::check(&a, &l, t), second::check(&a, &l, t), &[t]);
+        for _ in 0..4 {
+            let k = key(&mut rng, t);
+            tally.note("lookup", probe::lookup(t, &k), second::lookup(t, &k), &[t, &k]);
+        }
+    }
+    tally
+}
+
+fn main() {
+    let rounds = std::env::args().nth(1).map_or(100_000, |n| n.parse().expect("rounds"));
+    let tables = compare_tables(rounds);
+    println!("numbers of the check: {:?}", tables.numbers);
+    for number in [0, 12, 13, 14] {
+        assert!(tables.numbers.contains_key(&number), "number {number} never occurred");
+    }
+    println!("{} passed, {} failed", tables.passed, tables.failed);
+    std::process::exit((tables.failed != 0) as i32);
+}

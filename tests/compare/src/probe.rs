@@ -1,0 +1,24 @@
+//! The proved functions, called from Rust. Nothing checks these declarations against the Rattle source, so they are few.
+
+use second::Answer;
+
+extern "C" {
+    fn probe_lookup(t: *const u8, t_len: usize, key: *const u8, key_len: usize) -> u64;
+    fn probe_check(a: *const u8, a_len: usize, l: *const u8, l_len: usize, p: *const u8, p_len: usize) -> u64;
+}
+
+/// Found, start, length.
+pub fn lookup(t: &[u8], key: &[u8]) -> (bool, usize, usize) {
+    let r = unsafe { probe_lookup(t.as_ptr(), t.len(), key.as_ptr(), key.len()) };
+    (r & 1 == 1, (r >> 1 & 0x7FFF_FFFF) as usize, (r >> 32) as usize)
+}
+
+pub fn check(a: &[u8], l: &[u8], p: &[u8]) -> Answer {
+    let r = unsafe { probe_check(a.as_ptr(), a.len(), l.as_ptr(), l.len(), p.as_ptr(), p.len()) };
+    Answer {
+        number: (r & 0xFF) as u8,
+        table: (r >> 8 & 0xFF) as u8,
+        place: (r >> 16 & 0xFFFF) as usize,
+        ..Answer::default()
+    }
+}
