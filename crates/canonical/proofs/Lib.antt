@@ -25,3 +25,4 @@ pub mod Merged
 pub mod Counts
 pub mod Formed
 pub mod Outcomes
+pub mod Delivers

@@ -4,3 +4,4 @@ pub mod Three
 pub mod Tested
 pub mod Variants
 pub mod Form
+pub mod Answer

@@ -8,11 +8,14 @@ use reader::Reading;
 use reader::read_parts;
 use subtag::put_tidy;
 ghost use mathlib.Core.Path.{_≡_};
+ghost use mathlib.Core.Bool.{false};
+ghost use mathlib.Core.List.{[]};
 ghost use mathlib.Core.Option.{none};
 ghost use Prim.Native.Nat.{_+_, _≤_};
 ghost use lib.ListN.{length};
 ghost use lib.Seq.{sets};
 ghost use Rattle.standard.specs.Reading.{split, faultOf, print};
+ghost use Rattle.standard.specs.Table.{check};
 ghost use Rattle.reader.specs.Parts.{partsOf};
 ghost use Rattle.canonical.specs.Tested.{Tested};
 ghost use Rattle.canonical.specs.Form.{hyphenOf, hyphens, formOf, outcomeOf, outcome, accepted, unreadOf, FormFits};
@@ -111,7 +114,7 @@ fn unread(reading: Reading) -> Canon
 
 // Canonicalises an identifier into out, over aliases that passed the check. Where reading refuses, its answer stands.
 pub fn canonical_form(id: &[u8], aliases: &[u8], out: &mut [u8]) -> Canon
-    requires { ⌜ Tested (now aliases) × (length (now out) ≡ 512) ⌝ }
+    requires { ⌜ (check false false (now aliases) [] [] ≡ none) × (length (now out) ≡ 512) ⌝ }
     ensures { λ r. ⌜ (outcomeOf r (now (out .exit)) ≡ outcome (now (aliases .entry)) (now (id .entry))) × FormFits r ⌝ }
 {
     let reading = read_parts(id);

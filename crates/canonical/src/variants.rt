@@ -1,5 +1,6 @@
 // The variants of the canonical form: replaced one by one, then in ascending order, of equal ones the first.
 use crate::alias::write_aliased;
+use crate::buffer::buffer;
 use crate::sorted::write_sorted;
 use subtag::judge;
 ghost use mathlib.Core.Path.{_≡_};
@@ -32,13 +33,6 @@ fn resolve_variants(s: &[u8], aliases: &[u8], out: &mut [u8]) -> usize
     end
 }
 
-// Room for the variants before equal ones merge: fifty of four bytes may each become eight.
-fn room() -> [u8; 512]
-    ensures { λ r. ⌜ length r ≡ 512 ⌝ }
-{
-    [0u8; 512]
-}
-
 // Writes the variants of the canonical form, from those of the section s.
 pub fn write_variants(s: &[u8], aliases: &[u8], out: &mut [u8], at: usize) -> usize
     requires { ⌜ Led (now s) × Plain (tagsOf (now s)) × EachVariant (tagsOf (now s)) × Tested (now aliases) × (length (now s) ≤ 255) × (at + 459 ≤ length (now out)) ⌝ }
@@ -47,7 +41,7 @@ pub fn write_variants(s: &[u8], aliases: &[u8], out: &mut [u8], at: usize) -> us
     if s.len() == 0 {
         return at;
     }
-    let mut scratch = room();
+    let mut scratch = buffer();
     let m = resolve_variants(s, aliases, &mut scratch);
     write_sorted(&scratch[..m], 8, false, out, at)
 }

@@ -59,11 +59,11 @@ module _ (A L P L′ : Bytes) where
   parent-free (a ∷ b ∷ c ∷ d) = refl
 
 module _ (A L P : Bytes) where
-  aliases-only : check false false A [] [] ≡ check false false A L P
+  pub aliases-only : check false false A [] [] ≡ check false false A L P
   unfolding check inTable
   aliases-only = rw (clash-by (aliasFree (tablesOf A L P)) (aliasFree (tablesOf A [] [])) (alias-free A L P [] []) 0 (rows A))
 
-  likely-only : check true false A L [] ≡ check true false A L P
+  pub likely-only : check true false A L [] ≡ check true false A L P
   unfolding check inTable
   likely-only =
       rw (
@@ -71,7 +71,7 @@ module _ (A L P : Bytes) where
         clash-by (likelyFree (tablesOf A L P)) (likelyFree (tablesOf A L [])) (likely-free A L P L []) 0 (rows L),
       )
 
-  parents-only : check false true A [] P ≡ check false true A L P
+  pub parents-only : check false true A [] P ≡ check false true A L P
   unfolding check inTable
   parents-only =
       rw (

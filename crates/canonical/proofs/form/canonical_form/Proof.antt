@@ -3,6 +3,7 @@ use native.Mathlib.Omega.{arith}
 use mathlib.Core.Path.{_≡_, refl, sym, ap, _∙_}
 use mathlib.Core.List.{List}
 use lib.ListN.{length}
+use Rattle.canonical.proofs.Delivers as delivers
 use Rattle.canonical.proofs.Outcomes as outcomes
 use borrow.Author.Needs.{needs}
 use Rattle.canonical.proofs.form.canonical_form.Statement.{statement}
@@ -39,7 +40,7 @@ write-form-requires c κs =
     let r = m .before in
     let b = r .before .before .before .before in
     let w = outcomes.was-read (b .args .aliases .now) (b .args .id .now) (b .args .out .now) (r .read-parts .result) _ (r .read-parts .ensures) (c .before .before .reading .given .1) in
-    (w .0, w .1, b .pre .0, b .pre .1)
+    (w .0, w .1, delivers.tested (b .args .aliases .now) (b .pre .0), b .pre .1)
 
 -- src/form.rt:123:9
 same-length : tie.Need-same-length

@@ -15,7 +15,7 @@ use Rattle.canonical.proofs.variants.write_variants.Reads as reads
 use Rattle.canonical.proofs.variants.write_variants.Lts as lts
 use Rattle.canonical.proofs.sorted.write_sorted.Reads as write-sorted-reads
 use Rattle.canonical.proofs.variants.resolve_variants.Reads as resolve-variants-reads
-use Rattle.canonical.proofs.variants.room.Reads as room-reads
+use Rattle.canonical.proofs.buffer.buffer.Reads as buffer-reads
 
 -- src/variants.rt:48:9
 returns : tie.Need-returns
@@ -25,8 +25,8 @@ returns c =
     (omega (arith, ap length e), ap (sets (b .args .out .now) (b .args .at)) (sym e))
 
 -- src/variants.rt:50:23
-room-requires : tie.Need-room-requires
-room-requires c κs = search needs
+buffer-requires : tie.Need-buffer-requires
+buffer-requires c κs = search needs
 
 -- src/variants.rt:51:42
 slice-aggregate-resolve-variants : tie.Need-slice-aggregate-resolve-variants
@@ -36,14 +36,14 @@ slice-aggregate-resolve-variants c = search needs
 resolve-variants-requires : tie.Need-resolve-variants-requires
 resolve-variants-requires c κs =
     let b = c .before .before .before .before .before .before in
-    (b .pre .0, b .pre .1, b .pre .3 .sorted, omega (arith, merged.resolved-fits (b .args .aliases .now) (b .pre .3 .passes) (b .args .s .now) (b .pre .0) (b .pre .2) (b .pre .4), c .before .room .ensures))
+    (b .pre .0, b .pre .1, b .pre .3 .sorted, omega (arith, merged.resolved-fits (b .args .aliases .now) (b .pre .3 .passes) (b .args .s .now) (b .pre .0) (b .pre .2) (b .pre .4), c .before .buffer .ensures))
 
 -- src/variants.rt:52:18
 fits : (c : tie.After-resolve-variants) → (c .resolve-variants .result ≤ length (c .resolve-variants .last .1 .1 .0)) × (c .resolve-variants .result ≤ 459)
 fits c =
     let b = c .before .before .before .before .before .before .before in
     let n = merged.resolved-fits (b .args .aliases .now) (b .pre .3 .passes) (b .args .s .now) (b .pre .0) (b .pre .2) (b .pre .4) in
-    (omega (arith, c .resolve-variants .ensures .0, c .before .before .room .ensures), omega (arith, c .resolve-variants .ensures .0))
+    (omega (arith, c .resolve-variants .ensures .0, c .before .before .buffer .ensures), omega (arith, c .resolve-variants .ensures .0))
 
 -- the section of the replaced variants
 part : (c : tie.After-resolve-variants) → let b = c .before .before .before .before .before .before .before in
@@ -86,7 +86,7 @@ write-variants-spec =
     tie.close
     (tie.spec
     returns
-    room-requires
+    buffer-requires
     slice-aggregate-resolve-variants
     resolve-variants-requires
     array-share-prefix-scratch

@@ -1,0 +1,69 @@
+-- `canonical::canonicalise` meets its contract. Assumes nothing.
+use mathlib.Core.Path.{_≡_, sym, ap, _∙_}
+use Rattle.standard.specs.Calls.{canonicalise as canonicalising}
+use Rattle.standard.specs.Delivery.{Made, given}
+use Rattle.standard.specs.Make.{make, canonicaliseMade}
+use Rattle.canonical.proofs.Delivers as delivers
+use borrow.Author.Needs.{needs}
+use Rattle.canonical.proofs.canonicalise.Statement.{statement}
+use Rattle.canonical.proofs.canonicalise.Tie as tie
+use Rattle.canonical.proofs.canonicalise.Reads as reads
+use Rattle.canonical.proofs.canonicalise.Lts as lts
+use Rattle.canonical.proofs.canonicalise_tested.Reads as canonicalise-tested-reads
+use Rattle.canonical.proofs.delivery.refused_table.Reads as refused-table-reads
+use Rattle.verdict.proofs.check_aliases.Reads as check-aliases-reads
+
+-- src/lib.rt:49:9
+check-aliases-requires : tie.Need-check-aliases-requires
+check-aliases-requires c κs = search needs
+
+enum-told : tie.Need-enum-told
+enum-told c = search needs
+
+-- src/lib.rt:51:9
+enum-told-2 : tie.Need-enum-told-2
+enum-told-2 c = search needs
+
+-- src/lib.rt:51:9
+refused-table-requires : tie.Need-refused-table-requires
+refused-table-requires c κs = search needs
+
+-- src/lib.rt:51:9
+returns : tie.Need-returns
+unfolding canonicaliseMade
+returns c =
+    let k = c .before .before .before in
+    let b = k .before .before .before .before in
+    delivers.table-stands (k .check-aliases .result) _ _ _ _ (c .before .enum-told2 .given .1) (c .refused-table .ensures) (k .check-aliases .ensures)
+
+-- src/lib.rt:53:5
+canonicalise-tested-requires : tie.Need-canonicalise-tested-requires
+canonicalise-tested-requires c κs =
+    let k = c .before .before .before in
+    delivers.table-good (k .check-aliases .result) _ (k .check-aliases .ensures) (c .before .enum-told .given .1)
+
+-- src/lib.rt:46:1
+same-length : tie.Need-same-length
+same-length c = search needs
+
+-- src/lib.rt:46:1
+returns-2 : tie.Need-returns-2
+returns-2 c =
+    let t = c .before .before in
+    let k = t .before .before .before .before in
+    let b = k .before .before .before .before in
+    let g = delivers.table-good (k .check-aliases .result) _ (k .check-aliases .ensures) (t .before .before .enum-told .given .1) in
+    t .canonicalise-tested .ensures ∙ ap (λ (m : Made). given m (b .args .out .now)) (sym (delivers.after-good (b .args .aliases .now) (b .args .id .now) g))
+
+pub canonicalise-spec : {M : Type 1} → statement M
+canonicalise-spec =
+    tie.close
+    (tie.spec
+    check-aliases-requires
+    enum-told
+    enum-told-2
+    refused-table-requires
+    returns
+    canonicalise-tested-requires
+    same-length
+    returns-2)

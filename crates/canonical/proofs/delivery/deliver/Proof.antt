@@ -1,0 +1,37 @@
+-- `canonical::delivery::deliver` meets its contract. Assumes nothing.
+use Rattle.canonical.proofs.Delivers as delivers
+use borrow.Author.Needs.{needs}
+use Rattle.canonical.proofs.delivery.deliver.Statement.{statement}
+use Rattle.canonical.proofs.delivery.deliver.Tie as tie
+use Rattle.canonical.proofs.delivery.deliver.Reads as reads
+use Rattle.canonical.proofs.delivery.deliver.Lts as lts
+use Rattle.canonical.proofs.alias.put.Reads as put-reads
+use Rattle.canonical.proofs.delivery.refuse.Reads as refuse-reads
+
+-- src/delivery.rt:53:9
+refuse-requires : tie.Need-refuse-requires
+refuse-requires c κs = search needs
+
+-- src/delivery.rt:53:9
+returns : tie.Need-returns
+returns c =
+    let b = c .before .before .before .before in
+    delivers.too-short (b .args .bytes .now) (b .args .out .now) (b .args .steps) (c .refuse .result) (c .refuse .ensures) (c .before .if1 .taken)
+
+-- src/delivery.rt:55:9
+put-requires : tie.Need-put-requires
+put-requires c κs = search needs
+
+-- src/delivery.rt:48:1
+same-length : tie.Need-same-length
+same-length c = search needs
+
+-- src/delivery.rt:48:1
+returns-2 : tie.Need-returns-2
+returns-2 c =
+    let p = c .before .before in
+    let b = p .before .before .before .before .before in
+    delivers.delivered (b .args .bytes .now) (b .args .out .now) _ (b .args .steps) _ (p .before .before .if1 .left) (p .put .ensures .0) (p .put .ensures .1)
+
+pub deliver-spec : {M : Type 1} → statement M
+deliver-spec = tie.close (tie.spec refuse-requires returns put-requires same-length returns-2)
