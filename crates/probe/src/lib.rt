@@ -4,6 +4,7 @@ ghost use mathlib.Core.Bool.{true};
 ghost use Prim.Native.Nat.{_+_, _*_, _%_, _<_};
 ghost use Rattle.standard.specs.Table.{located, check as checkOf};
 ghost use Rattle.table.specs.Lines.{foundIs};
+ghost use Rattle.table.specs.Search.{Sorted};
 ghost use Rattle.verdict.specs.Verdicts.{verdictIs};
 ghost use Rattle.probe.specs.Codes.{foundCode, faultCode};
 use verdict::Verdict;
@@ -14,6 +15,14 @@ pub extern "C" fn probe_lookup(t: &[u8], key: &[u8]) -> u64
     ensures { λ r. ⌜ r ≡ foundCode (located (now (t .entry)) (now (key .entry))) ⌝ }
 {
     code_found(table::find(t, key))
+}
+
+// The same by halves, of a sorted table.
+#[no_mangle]
+pub extern "C" fn probe_sorted(t: &[u8], key: &[u8]) -> u64
+    ensures { λ r. ⌜ (Sorted (now (t .entry)) → r ≡ foundCode (located (now (t .entry)) (now (key .entry)))) ⌝ }
+{
+    code_found(table::find_sorted(t, key))
 }
 
 fn code_found(f: table::Found) -> u64

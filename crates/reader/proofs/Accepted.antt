@@ -1,24 +1,24 @@
 -- An identifier without a fault: its subtags in their places in the input, and its language, script and region.
 -- Assumes nothing.
-use mathlib.Core.Path.{_≡_, refl, sym, ap, ap₂, _∙_, subst}
+use mathlib.Core.Path.{_≡_, refl, sym, ap, _∙_, subst}
 use mathlib.Core.Bool.{Bool, true, false}
 use mathlib.Core.List.{List, [], _∷_, _++_, append-assoc}
 use mathlib.Core.Logic.{⊎-elim}
-use mathlib.Core.Option.{Option, none, some, Option·some-ne-none}
+use mathlib.Core.Option.{none, Option·some-ne-none}
 use Prim.Native.Nat.{ℕ, suc, _+_, _-_, _≤_, _<_}
 use native.Mathlib.Omega.{arith}
 use lib.ListN.{length, drop, length-drop, length-append}
 use lib.Seq.{drop-drop}
 use Rattle.standard.specs.Tag.{Tag, same, label}
-use Rattle.standard.specs.Grammar.{Kind, aScript, aRegion, aVariant, aNone, kindOf, isLanguage, isVariant, isSingleton, grouped, flat, only, title, upper}
-use Rattle.standard.specs.Identifier.{Three, three, und, Identifier, part, parts}
-use Rattle.standard.specs.Reading.{Fault, firstOf, noBytes, tooLong, unclean, badTag, wrongSize, optional, split, root, start, partFault, noLanguage, isX, upTo, from, grammarFault, faultOf, find, coreOf, afterFirst, identifierOf}
+use Rattle.standard.specs.Grammar.{Kind, aScript, aRegion, aVariant, aNone, kindOf, isLanguage, isVariant, isSingleton, flat, only}
+use Rattle.standard.specs.Identifier.{three, part, parts}
+use Rattle.standard.specs.Reading.{noBytes, tooLong, unclean, badTag, wrongSize, optional, split, root, start, partFault, noLanguage, isX, upTo, from, grammarFault, faultOf, find, coreOf, afterFirst, identifierOf}
 use Rattle.standard.proofs.Bytes.{bool-cases}
 use Rattle.standard.proofs.Tags.{All}
 use Rattle.standard.proofs.Faults.{none-badTag}
 use Rattle.subtag.specs.Subtags.{PlainTag}
 use Rattle.subtag.proofs.Keys.{split-words}
-use Rattle.subtag.proofs.Walk.{split-next, split-end, label-fits, le-or-lt}
+use Rattle.subtag.proofs.Walk.{split-next, split-end, le-or-lt}
 use borrow.Author.Tests.{lt-ltb, le-ltb}
 use Rattle.reader.specs.declared.Parts.{Parts}
 use Rattle.reader.specs.Cuts.{languageCut, cutsAfter, cutsOf}

@@ -1,10 +1,8 @@
 -- The transition's definitions, by the branches through which the code decides them. Assumes nothing.
-use mathlib.Core.Path.{_≡_, refl, sym, ap, _∙_}
-use mathlib.Core.Bool.{Bool, true, false, not, _&&_}
+use mathlib.Core.Path.{_≡_, sym, _∙_}
+use mathlib.Core.Bool.{Bool, true, false}
 use Prim.Native.Nat.{ℕ}
-use lib.Dec.{eqb}
 use borrow.Author.Tests.{eq-eqb, ne-eqb}
-use Rattle.standard.specs.Grammar as grammar
 use Rattle.standard.specs.Reading.{accept}
 use Rattle.subtag.specs.declared.Kind.{Kind}
 use Rattle.subtag.specs.declared.Kind.the-variants as kinds
@@ -13,7 +11,7 @@ use Rattle.subtag.specs.Kinds.{languageFrom, kindFrom, kindIs, keywordFrom, fie
 use Rattle.reader.specs.declared.steps.Stage.{Stage}
 use Rattle.reader.specs.declared.steps.Stage.the-variants.{Language, Script, Region, Variant, Root}
 use Rattle.reader.specs.declared.steps.State.{State}
-use Rattle.reader.specs.declared.steps.State.the-variants.{First, Main, Unicode, Keywords, Transform, Part, Key, Field, Other, Others, Private, Privates, Misplaced, Unfinished}
+use Rattle.reader.specs.declared.steps.State.the-variants.{Main, Unicode, Keywords, Transform, Part, Key, Field, Other, Private, Misplaced}
 use Rattle.reader.specs.Walk.{stageOf, stageBy, placed, afterSingleton}
 use Rattle.reader.specs.Steps.{kindStage, accepts, rootKey, scriptFirst, firstFrom, stageFrom, partFrom, keywordsFrom, transformFrom, valueFrom, otherFrom, opensFrom, nextFrom}
 

@@ -1,12 +1,12 @@
 -- The parts after a subtag, by the arms in which the code makes them. Assumes nothing.
-use mathlib.Core.Path.{_≡_, refl, sym, ap, _∙_}
+use mathlib.Core.Path.{_≡_}
 use mathlib.Core.Bool.{Bool, true, false}
 use Prim.Native.Nat.{ℕ}
 use lib.Count.{ones}
 use Rattle.reader.specs.declared.Parts.{Parts}
 use Rattle.reader.specs.declared.steps.Stage.{Stage}
 use Rattle.reader.specs.declared.steps.State.{State}
-use Rattle.reader.specs.Parts.{Outcome, parts, refused}
+use Rattle.reader.specs.Parts.{parts, refused}
 use Rattle.reader.specs.Walk.{pending, cutStage, cut, counted}
 use Rattle.reader.specs.Steps.{ended}
 

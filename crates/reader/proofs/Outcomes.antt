@@ -3,11 +3,10 @@ use mathlib.Core.Path.{_≡_, refl, sym, ap, _∙_}
 use mathlib.Core.Bool.{Bool, true, false, not, _||_}
 use mathlib.Core.List.{List, [], _∷_}
 use mathlib.Core.Logic.{⊎-elim}
-use mathlib.Core.Option.{Option, none, some, Option·some-ne-none}
+use mathlib.Core.Option.{Option, none}
 use Prim.Native.Nat.{ℕ, suc, _+_, _-_, _≤_, _<_}
 use native.Mathlib.Numerals.{add-one}
 use native.Mathlib.Omega.{arith}
-use lib.Dec.{leb}
 use lib.ListN.{length, getD, drop, drop-of-length-le}
 use lib.Seq.{drop-cons}
 use borrow.Author.Tests.{le-leb, lt-leb}
@@ -21,19 +20,16 @@ use Rattle.standard.proofs.Faults.{none-badTag}
 use Rattle.standard.proofs.Shapes.{Word}
 use Rattle.subtag.specs.declared.Class.{Class}
 use Rattle.subtag.specs.declared.Class.the-variants.{Small, Capital, Digit, Separator, Other}
-use Rattle.subtag.specs.declared.Subtag.{Subtag}
 use Rattle.subtag.specs.Bytes.{classOf, isSmall, isCapital, isDigit, isSeparator}
-use Rattle.subtag.specs.Subtags.{subtagOf, PlainTag}
+use Rattle.subtag.specs.Subtags.{PlainTag}
 use Rattle.subtag.proofs.Bytes.{classed}
 use Rattle.subtag.proofs.Keys.{word-plain, split-words}
 use Rattle.subtag.proofs.Shapes.{wrong-empty, wrong-long, right-size}
 use Rattle.subtag.proofs.Walk.{split-cons, walk-more, walk-end, le-or-lt}
 use Rattle.reader.specs.declared.Found.{Found}
 use Rattle.reader.specs.declared.Found.the-variants.{At, Nothing}
-use Rattle.reader.specs.declared.steps.State.the-variants.{First}
-use Rattle.reader.specs.Parts.{Outcome, refused, partsOf, outcomeAs, outcome, foundAs}
-use Rattle.reader.specs.Walk.{walkFault, walkParts, unread}
-use Rattle.reader.specs.Steps.{steps, stepsOf}
+use Rattle.reader.specs.Parts.{refused, outcomeAs, outcome, foundAs}
+use Rattle.reader.specs.Steps.{stepsOf}
 use Rattle.reader.proofs.Parting.{walked}
 use Rattle.reader.proofs.Stepping.{Fine, walked-steps}
 

@@ -1,26 +1,25 @@
 -- The report of an accepted identifier, by what its first subtag is; and of a refusal. Assumes nothing.
-use mathlib.Core.Path.{_≡_, refl, sym, ap, ap₂, _∙_}
+use mathlib.Core.Path.{_≡_, refl, sym, ap, _∙_}
 use mathlib.Core.Bool.{Bool, true, false}
 use mathlib.Core.List.{List, [], _∷_}
 use mathlib.Core.Option.{Option, none, some}
-use Prim.Native.Nat.{ℕ, suc, _+_, _-_, _≤_, _<_}
+use Prim.Native.Nat.{ℕ, _+_, _-_, _≤_, _<_}
 use native.Mathlib.Omega.{arith}
 use lib.ListN.{length, take, drop, length-drop}
 use lib.Seq.{take-all}
 use borrow.Author.Tests.{lt-ltb, le-ltb}
 use Rattle.standard.specs.Tag.{Tag, same, label}
 use Rattle.standard.specs.Grammar.{aScript, aRegion, isLanguage, title, upper}
-use Rattle.standard.specs.Identifier.{Three, three, und, Identifier}
-use Rattle.standard.specs.Reading.{Fault, split, root, find, coreOf, identifierOf, faultOf, Read, good, bad, readAs, read}
+use Rattle.standard.specs.Identifier.{three, und}
+use Rattle.standard.specs.Reading.{Fault, split, root, find, coreOf, identifierOf, faultOf, good, bad, readAs, read}
 use Rattle.standard.specs.Report.{Report, reportOf, report}
-use Rattle.standard.proofs.Bytes.{bool-cases, clash}
-use Rattle.reader.specs.declared.Start.{Start}
+use Rattle.standard.proofs.Bytes.{bool-cases}
 use Rattle.reader.specs.declared.Start.the-variants.{Language, Script, Root}
 use Rattle.reader.specs.declared.Parts.{Parts}
-use Rattle.reader.specs.Parts.{Outcome, parts, refused, startOf, partsOf, outcomeAs, outcome}
+use Rattle.reader.specs.Parts.{parts, refused, startOf, partsOf, outcomeAs, outcome}
 use Rattle.reader.specs.Words.{raised, laterWord, LaterFits, refusedReport, partsReport}
 use Rattle.reader.proofs.Words.{raised-none, raised-title, raised-upper}
-use Rattle.reader.proofs.Accepted.{Core, of-language, of-root, of-script, Later, Named, named}
+use Rattle.reader.proofs.Accepted.{Named, named}
 
 -- What the first subtag is.
 starts : (t : Tag) (b c : Bool) → isLanguage t ≡ b → same t root ≡ c → startOf t ≡ elim b [ true ↦ Language | false ↦ elim c [ true ↦ Root | false ↦ Script ] ]

@@ -4,12 +4,10 @@ use mathlib.Core.Path.{_≡_, refl, sym, ap, ap₂, _∙_}
 use mathlib.Core.Bool.{Bool, true, false, _&&_}
 use mathlib.Core.List.{List, [], _∷_, _++_}
 use mathlib.Core.Option.{Option, none, some, Option·none-ne-some, Option·some-ne-none}
-use Prim.Native.Nat.{ℕ, suc, _+_}
-use native.Mathlib.Omega.{arith}
-use lib.ListN.{length}
+use Prim.Native.Nat.{ℕ, _+_}
 use Rattle.standard.specs.Tag.{Tag}
 use Rattle.standard.specs.Grammar.{Kind, aScript, aRegion, aVariant, aNone, kindOf, kind, variantKind, sizeOf, isVariant, only}
-use Rattle.standard.specs.Reading.{optional, Fault, Stage, afterLanguage, afterScript, afterRegion, afterRoot, accept, member, restFault, ofKind, find}
+use Rattle.standard.specs.Reading.{optional, Stage, afterLanguage, afterScript, afterRegion, afterRoot, accept, member, restFault, ofKind, find}
 use Rattle.standard.proofs.Bytes.{clash}
 use Rattle.standard.proofs.Faults.{kind-variant}
 use Rattle.standard.proofs.Shapes.{known}

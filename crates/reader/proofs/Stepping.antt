@@ -4,7 +4,7 @@ use mathlib.Core.Path.{_≡_, refl, sym, ap, ap₂, _∙_}
 use mathlib.Core.Bool.{Bool, true, false, cond, not, _&&_, _||_}
 use mathlib.Core.List.{List, [], _∷_, _++_, map}
 use mathlib.Core.Option.{Option, none, some}
-use Prim.Native.Nat.{ℕ, suc, _+_, _≤_, _<_, _^_, compare, Ordering, Ordering·lt, Ordering·eq, Ordering·gt}
+use Prim.Native.Nat.{ℕ, suc, _+_, _^_, compare, Ordering, Ordering·lt, Ordering·eq, Ordering·gt}
 use native.Mathlib.Omega.{arith}
 use lib.Bits.{bitOr}
 use lib.Count.{ones}
@@ -13,9 +13,9 @@ use lib.ListN.{length}
 use borrow.Author.Tests.{eq-eqb, ne-eqb, eqb-true, eqb-false}
 use Rattle.standard.specs.Tag.{Tag, andThen, order, same}
 use Rattle.standard.specs.Grammar as grammar
-use Rattle.standard.specs.Grammar.{every, aScript, aRegion, aVariant, aNone, oneSize, twoSize, kindOf, isLanguage, isSingleton, isTwo, isKeyword, isField, uTag, tTag, xTag}
+use Rattle.standard.specs.Grammar.{every, aScript, aRegion, aVariant, aNone, oneSize, twoSize, kindOf, isSingleton, isTwo}
 use Rattle.standard.specs.Reading as reading
-use Rattle.standard.specs.Reading.{Fault, fault, firstOf, member, accept, wrongKeyword, isX, root}
+use Rattle.standard.specs.Reading.{Fault, firstOf, member, accept, wrongKeyword, isX, root}
 use Rattle.standard.proofs.Bytes.{bool-cases, clash, and-true, word}
 use Rattle.standard.proofs.Tags.{All}
 use Rattle.standard.proofs.Shapes.{Word}
@@ -32,9 +32,9 @@ use Rattle.reader.specs.declared.steps.Stage.{Stage}
 use Rattle.reader.specs.declared.steps.Stage.the-variants.{Language, Script, Region, Variant, Root}
 use Rattle.reader.specs.declared.steps.State.{State}
 use Rattle.reader.specs.declared.steps.State.the-variants.{First, Main, Unicode, Keywords, Transform, Part, Key, Field, Other, Others, Private, Privates, Misplaced, Unfinished}
-use Rattle.reader.specs.Parts.{Outcome, parts, refused, outcomeAs}
+use Rattle.reader.specs.Parts.{Outcome, outcomeAs}
 use Rattle.reader.specs.Marks.{placeOf, bit, has, markedWith}
-use Rattle.reader.specs.Walk.{stageOf, stageBy, placed, firstState, fieldState, opens, afterSingleton, afterOther, nextState, pending, stageVerdict, verdictOf, repeated, verdictFault, singlesAfter, listedAfter, walkFault, cut, counted, unread, walkParts}
+use Rattle.reader.specs.Walk.{stageOf, stageBy, placed, firstState, fieldState, opens, afterSingleton, afterOther, nextState, pending, stageVerdict, verdictOf, repeated, verdictFault, singlesAfter, listedAfter, walkFault, cut, unread, walkParts}
 use Rattle.reader.specs.Steps.{rootKey, scriptFirst, firstFrom, stageFrom, partFrom, keywordsFrom, transformFrom, valueFrom, otherFrom, opensFrom, nextFrom, among, ended, steps}
 use Rattle.reader.proofs.Sets.{Marks, marks-none, marks-more, seen-test}
 use Rattle.reader.proofs.Places.{place-in, place-same}

@@ -1,7 +1,7 @@
 -- The walk from left to right finds the standard's first fault. One law for every state inside an identifier: the walk
 -- over the subtags that are left gives what the standard says of the rest of that body, then of the extensions behind it.
 -- Assumes nothing.
-use mathlib.Core.Path.{_≡_, refl, sym, ap, ap₂, _∙_}
+use mathlib.Core.Path.{_≡_, refl, sym, ap, _∙_}
 use mathlib.Core.Bool.{Bool, true, false, not, _&&_, _||_}
 use mathlib.Core.List.{List, [], _∷_, _++_}
 use mathlib.Core.Option.{Option, none, some, Option·none-ne-some}
@@ -14,14 +14,14 @@ use Rattle.standard.specs.Identifier.{parts}
 use Rattle.standard.specs.Reading as reading
 use Rattle.standard.specs.Reading.{Fault, fault, firstOf, badTag, member, accept, restFault, partFault, languageOnly, alone, groupsFault, noLanguage, start, grammarFault, wrongKeyword, wrongValue, fieldFault, fieldsFault, extensionFault, privateFault, isX, upTo, from, root}
 use Rattle.standard.proofs.Bytes.{clash, bool-cases}
-use Rattle.standard.proofs.Tags.{same-eq, same-refl}
+use Rattle.standard.proofs.Tags.{same-eq}
 use Rattle.reader.specs.declared.steps.Stage.{Stage}
 use Rattle.reader.specs.declared.steps.Stage.the-variants.{Language, Script, Region, Variant, Root}
 use Rattle.reader.specs.declared.steps.Verdict.{Verdict}
 use Rattle.reader.specs.declared.steps.State.{State}
 use Rattle.reader.specs.declared.steps.State.the-variants.{First, Main, Unicode, Keywords, Transform, Part, Key, Field, Other, Others, Private, Privates, Misplaced, Unfinished}
 use Rattle.reader.specs.Walk.{stageOf, stageBy, placed, firstState, fieldState, opens, afterSingleton, afterOther, nextState, pending, stageVerdict, verdictOf, repeated, verdictFault, singlesAfter, listedAfter, walkFault}
-use Rattle.reader.proofs.Bodies.{body, heads, ahead, fields, behind, behind-nil, behind-more, behind-x, body-more, body-single, heads-head, from-head, single-length, ahead-more, ahead-key, fields-more, fields-key}
+use Rattle.reader.proofs.Bodies.{body, heads, ahead, fields, behind, behind-more, behind-x, body-more, body-single, heads-head, from-head, single-length, ahead-more, ahead-key, fields-more, fields-key}
 
 first-assoc : (a b c : Option Fault) → firstOf (firstOf a b) c ≡ firstOf a (firstOf b c)
 unfolding firstOf

@@ -1,12 +1,11 @@
 -- A word written byte by byte, and the words of a report. Assumes nothing.
 use mathlib.Core.Path.{_≡_, refl, sym, ap, ap₂, _∙_}
-use mathlib.Core.Bool.{Bool, true, false, cond}
+use mathlib.Core.Bool.{true, false}
 use mathlib.Core.List.{List, [], _∷_, _++_, append-assoc, append-nil}
 use mathlib.Core.Logic.{⊎-elim}
 use Prim.Native.Nat.{ℕ, zero, suc, _+_, _-_, _≤_, _<_}
 use native.Mathlib.Numerals.{add-one}
 use native.Mathlib.Omega.{arith}
-use lib.Dec.{ltb}
 use lib.ListN.{length, getD, take, drop, set, length-set}
 use lib.Seq.{take-suc-set}
 use borrow.Author.Tests.{lt-ltb, le-ltb}
@@ -14,7 +13,6 @@ use Rattle.standard.specs.Tag.{Tag, label}
 use Rattle.standard.specs.Grammar.{separator, lowerByte, upperByte, title, upper}
 use Rattle.standard.specs.Reading.{split}
 use Rattle.subtag.proofs.Walk.{at-end, at-sep, at-byte, le-or-lt}
-use Rattle.reader.specs.declared.report.Word.{Word}
 use Rattle.reader.specs.Words.{wordIs, raised, raisedByte}
 
 pub cased-up : (b i n r : ℕ) → i < n → r ≡ upperByte b → r ≡ raisedByte i n b

@@ -1,12 +1,12 @@
 -- Where the parts of an identifier end in its bytes. A part begins where the part before it ends, so that each subtag
 -- but the first has its separator in front; private use goes from the end of the extensions to the end of the input.
 -- Assumes nothing.
-use mathlib.Core.Bool.{Bool, true, false}
-use mathlib.Core.List.{List, [], _∷_}
+use mathlib.Core.Bool.{true, false}
+use mathlib.Core.List.{List}
 use Prim.Native.Nat.{ℕ, _+_}
 use lib.ListN.{length}
 use Rattle.standard.specs.Tag.{Tag, same, label}
-use Rattle.standard.specs.Grammar.{aScript, aRegion, isLanguage, isVariant, isSingleton, Groups, grouped, flat, only}
+use Rattle.standard.specs.Grammar.{aScript, aRegion, isLanguage, isVariant, isSingleton, grouped, flat, only}
 use Rattle.standard.specs.Identifier.{part, parts}
 use Rattle.standard.specs.Reading.{isX, upTo, root, find, afterFirst}
 

@@ -1,13 +1,12 @@
 -- What `read_parts` gives back, and what it is to give: document 01's number and place for each of the answer's cases.
 -- Assumes nothing.
-use mathlib.Core.Bool.{Bool, true, false}
-use mathlib.Core.List.{List, [], _∷_}
+use mathlib.Core.Bool.{true, false}
+use mathlib.Core.List.{List}
 use mathlib.Core.Option.{Option, none, some}
 use Prim.Native.Nat.{ℕ, _+_}
 use lib.ListN.{length}
 use Rattle.standard.specs.Tag.{Tag, same, label}
 use Rattle.standard.specs.Grammar.{isLanguage}
-use Rattle.standard.specs.Identifier.{Identifier}
 use Rattle.standard.specs.Reading.{root, Fault, fault, split, faultOf, identifierOf}
 use Rattle.standard.specs.Report.{privateCount}
 use Rattle.reader.specs.declared.Start.{Start}
@@ -17,7 +16,7 @@ use Rattle.reader.specs.declared.Reading.{Reading}
 use Rattle.reader.specs.declared.Reading.the-variants.{Read, Empty, TooLong, BadByte, BadSize, Misplaced, Repeated, Unfinished}
 use Rattle.reader.specs.declared.Found.{Found}
 use Rattle.reader.specs.declared.Found.the-variants.{At, Nothing}
-use Rattle.reader.specs.Cuts.{Cuts, cutsOf}
+use Rattle.reader.specs.Cuts.{cutsOf}
 
 -- what a first subtag is, where it can stand
 unfoldable pub startOf : Tag → Start

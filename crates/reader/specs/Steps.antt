@@ -1,10 +1,9 @@
 -- The walk in the code's terms: the transition by what the code keeps of a subtag, the singletons as marks in a number,
 -- the variants and keys as their numbers. `proofs/Stepping.antt` shows that it is the walk over the standard's subtags.
 -- Assumes nothing.
-use mathlib.Core.Bool.{Bool, true, false, cond, not, _&&_, _||_}
+use mathlib.Core.Bool.{Bool, true, false, not, _&&_, _||_}
 use mathlib.Core.List.{List, [], _∷_, _++_}
-use Prim.Native.Nat.{ℕ, zero, suc, _+_, _-_, _/_, _%_, _^_}
-use lib.Bits.{bitOr}
+use Prim.Native.Nat.{ℕ, suc, _+_, _-_, _/_}
 use lib.Count.{ones}
 use lib.Dec.{eqb}
 use lib.ListN.{length}
@@ -12,16 +11,12 @@ use Rattle.standard.specs.Tag.{Tag}
 use Rattle.standard.specs.Grammar as grammar
 use Rattle.standard.specs.Grammar.{aScript, aRegion, aVariant, aNone}
 use Rattle.standard.specs.Reading.{accept, split}
-use Rattle.subtag.specs.declared.Class.{Class}
-use Rattle.subtag.specs.declared.Class.the-variants as classes
 use Rattle.subtag.specs.declared.Kind.{Kind}
 use Rattle.subtag.specs.declared.Kind.the-variants as kinds
 use Rattle.subtag.specs.declared.Subtag.{Subtag}
-use Rattle.subtag.specs.Bytes.{classOf}
 use Rattle.subtag.specs.Subtags.{firstByte, keyOf, subtagOf}
 use Rattle.subtag.specs.Kinds.{languageFrom, kindFrom, keywordFrom, fieldFrom}
 use Rattle.reader.specs.declared.Parts.{Parts}
-use Rattle.reader.specs.declared.steps.Verdict.{Verdict}
 use Rattle.reader.specs.declared.steps.Verdict.the-variants as verdicts
 use Rattle.reader.specs.declared.steps.Stage.{Stage}
 use Rattle.reader.specs.declared.steps.Stage.the-variants.{Language, Script, Region, Variant, Root}

@@ -9,13 +9,13 @@ use steps::State;
 use steps::Verdict;
 use subtag::Class;
 ghost use mathlib.Core.Path.{_≡_};
-ghost use Prim.Native.Nat.{ℕ, _+_, _≤_, _<_};
+ghost use Prim.Native.Nat.{_+_, _≤_, _<_};
 ghost use lib.ListN.{length};
 ghost use mathlib.Core.Bool.{not};
 ghost use mathlib.Core.Option.{none};
 ghost use Rattle.standard.specs.Reading.{split, clean, unclean, badTag, wrongSize};
 ghost use Rattle.reader.specs.Parts.{foundAs, outcomeOf, outcome};
-ghost use Rattle.reader.specs.Walk.{cut as cutAt, firstCut, cutStage, extended as extendedTo, counted as countedAs, unread as nothingRead};
+ghost use Rattle.reader.specs.Walk.{cut as cutAt, firstCut, cutStage, extended as extendedTo, unread as nothingRead};
 ghost use Rattle.reader.specs.Steps.{ended, stepsOf};
 
 // What the first subtag is.

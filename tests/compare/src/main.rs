@@ -5,6 +5,7 @@ mod probe;
 
 use second::gen::{self, Rng};
 use std::collections::BTreeMap;
+use std::io::Write;
 
 /// What was compared, and what differed.
 #[derive(Default)]
@@ -105,7 +106,47 @@ fn compare_tables(rounds: usize) -> Tally {
     tally
 }
 
+/// Identifiers for the programs, one a line: all strings up to 5 telling bytes, random ones, and every change of one
+/// byte of valid ones.
+fn print_identifiers() {
+    let mut out = std::io::BufWriter::new(std::io::stdout().lock());
+    let mut put = |id: &[u8]| {
+        if !id.contains(&10) {
+            out.write_all(id).and_then(|_| out.write_all(b"\n")).expect("written");
+        }
+    };
+    let bytes = b"aZ1-_utx@";
+    for len in 0..=5u32 {
+        for n in 0..bytes.len().pow(len) {
+            put(&(0..len).map(|k| bytes[n / bytes.len().pow(k) % bytes.len()]).collect::<Vec<u8>>());
+        }
+    }
+    let mut rng = Rng::new(20_261_116);
+    for _ in 0..1_000_000 {
+        put(&gen::identifier(&mut rng));
+    }
+    let mut changed = 0;
+    while changed < 200 {
+        let id = gen::identifier(&mut rng);
+        if id.len() > 30 || second::read(&id).number != 0 {
+            continue;
+        }
+        changed += 1;
+        for i in 0..id.len() {
+            for b in 0..=255 {
+                let mut other = id.clone();
+                other[i] = b;
+                put(&other);
+            }
+        }
+    }
+}
+
 fn main() {
+    if std::env::args().nth(1).as_deref() == Some("identifiers") {
+        print_identifiers();
+        return;
+    }
     let rounds = std::env::args().nth(1).map_or(100_000, |n| n.parse().expect("rounds"));
     let tables = compare_tables(rounds);
     println!("numbers of the check: {:?}", tables.numbers);

@@ -1,5 +1,5 @@
 -- `reader::read_clean` meets its contract. Assumes nothing.
-use mathlib.Core.Path.{_≡_, sym, ap, _∙_}
+use mathlib.Core.Path.{_∙_}
 use Rattle.reader.specs.Parts.{outcomeOf}
 use Rattle.reader.proofs.Outcomes as outcomes
 use borrow.Author.Needs.{needs}

@@ -1,6 +1,6 @@
 -- `reader::read_parts` meets its contract. Assumes nothing.
 use native.Mathlib.Omega.{arith}
-use mathlib.Core.Path.{_≡_, sym, ap, _∙_}
+use mathlib.Core.Path.{sym, ap, _∙_}
 use Rattle.reader.specs.Parts.{outcomeOf, foundAs}
 use Rattle.reader.proofs.Outcomes as outcomes
 use borrow.Author.Needs.{needs}

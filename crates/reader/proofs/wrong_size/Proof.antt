@@ -2,7 +2,7 @@
 use borrow.Author.Needs.{needs}
 use native.Mathlib.Omega.{arith}
 use mathlib.Core.Path.{_≡_, refl, sym, _∙_}
-use Prim.Native.Nat.{suc, _+_, _-_, _≤_}
+use Prim.Native.Nat.{suc, _-_, _≤_}
 use lib.ListN.{length, drop}
 use Rattle.standard.specs.Tag.{label}
 use Rattle.standard.specs.Reading.{badTag, wrongSize, split}

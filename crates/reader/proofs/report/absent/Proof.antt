@@ -1,5 +1,5 @@
 -- `reader::report::absent` meets its contract. Assumes nothing.
-use mathlib.Core.Path.{refl, sym, _∙_}
+use mathlib.Core.Path.{refl}
 use Rattle.reader.specs.Words.{wordIs}
 use Rattle.reader.proofs.report.absent.Statement.{statement}
 use Rattle.reader.proofs.report.absent.Tie as tie

@@ -1,5 +1,5 @@
 -- `reader::report::filled` meets its contract. Assumes nothing.
-use mathlib.Core.Path.{_≡_, refl, sym, _∙_}
+use mathlib.Core.Path.{refl}
 use Rattle.reader.specs.Words.{reportIs, partsReport}
 use Rattle.reader.proofs.report.filled.Statement.{statement}
 use Rattle.reader.proofs.report.filled.Tie as tie

@@ -1,5 +1,5 @@
 -- `reader::report::read` meets its contract. Assumes nothing.
-use mathlib.Core.Path.{_≡_, refl, sym, ap, _∙_}
+use mathlib.Core.Path.{sym, ap, _∙_}
 use Rattle.reader.specs.Parts.{outcomeOf}
 use Rattle.reader.proofs.Reports as reports
 use borrow.Author.Needs.{needs}

@@ -1,5 +1,5 @@
 -- `reader::report::report_parts` meets its contract. Assumes nothing.
-use mathlib.Core.Path.{_≡_, refl, sym, _∙_}
+use mathlib.Core.Path.{_∙_}
 use Rattle.reader.proofs.Reports as reports
 use borrow.Author.Needs.{needs}
 use Rattle.reader.proofs.report.report_parts.Statement.{statement}

@@ -1,5 +1,5 @@
 -- `reader::report::und` meets its contract. Assumes nothing.
-use mathlib.Core.Path.{refl, sym, _∙_}
+use mathlib.Core.Path.{refl}
 use Rattle.reader.specs.Words.{wordIs}
 use Rattle.reader.proofs.report.und.Statement.{statement}
 use Rattle.reader.proofs.report.und.Tie as tie

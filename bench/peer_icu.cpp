@@ -1,0 +1,154 @@
+// ICU as a peer of the benchmark: nanoseconds per identifier for canonicalising,
+// maximising and minimising, from the bytes of the identifier to the bytes of the
+// result. Takes a file with one identifier a line; `--print` prints the three
+// results of each identifier instead of measuring.
+//
+// `Locale::createCanonical` corresponds to reading and canonicalising: it takes both
+// separators, applies CLDR's aliases and keeps extensions. `Locale::forLanguageTag`
+// doesn't take `_`, and needs a call of `canonicalize` for the aliases.
+// `toLanguageTag` into a buffer on the stack corresponds to writing the result.
+
+#include <chrono>
+#include <cstdint>
+#include <cstdio>
+#include <cstring>
+#include <fstream>
+#include <string>
+#include <vector>
+
+#include <unicode/bytestream.h>
+#include <unicode/locid.h>
+#include <unicode/ulocdata.h>
+#include <unicode/uversion.h>
+
+namespace {
+
+enum class Operation { canonicalise, maximise, minimise };
+
+constexpr Operation operations[] = {
+    Operation::canonicalise, Operation::maximise, Operation::minimise};
+
+const char *name_of(Operation operation) {
+    switch (operation) {
+    case Operation::canonicalise:
+        return "canonicalise";
+    case Operation::maximise:
+        return "maximise";
+    default:
+        return "minimise";
+    }
+}
+
+// Writes the result; gives its length, or 0 where ICU refuses.
+template <Operation operation> int32_t made(const char *identifier, char *out, int32_t out_len) {
+    UErrorCode status = U_ZERO_ERROR;
+    icu::Locale locale = icu::Locale::createCanonical(identifier);
+    if (operation == Operation::maximise) {
+        locale.addLikelySubtags(status);
+    }
+    if (operation == Operation::minimise) {
+        locale.minimizeSubtags(status);
+    }
+    icu::CheckedArrayByteSink sink(out, out_len);
+    locale.toLanguageTag(sink, status);
+    bool failed = locale.isBogus() || U_FAILURE(status) || sink.Overflowed();
+    return failed ? 0 : sink.NumberOfBytesWritten();
+}
+
+using Function = int32_t (*)(const char *, char *, int32_t);
+
+Function function_of(Operation operation) {
+    switch (operation) {
+    case Operation::canonicalise:
+        return made<Operation::canonicalise>;
+    case Operation::maximise:
+        return made<Operation::maximise>;
+    default:
+        return made<Operation::minimise>;
+    }
+}
+
+// The results' lengths are summed, so that no call can be left out.
+uint64_t sum = 0;
+
+// Seconds for so many passes over the identifiers.
+double seconds(const std::vector<std::string> &identifiers, Function make, long passes) {
+    char out[512];
+    auto start = std::chrono::steady_clock::now();
+    for (long pass = 0; pass < passes; pass++) {
+        for (const std::string &identifier : identifiers) {
+            sum += make(identifier.c_str(), out, sizeof out);
+        }
+    }
+    return std::chrono::duration<double>(std::chrono::steady_clock::now() - start).count();
+}
+
+// The best of five measures of about half a second each.
+double nanoseconds(const std::vector<std::string> &identifiers, Function make) {
+    seconds(identifiers, make, 1);
+    double once = seconds(identifiers, make, 1);
+    long passes = once < 0.5 ? static_cast<long>(0.5 / once) + 1 : 1;
+    double best = seconds(identifiers, make, passes);
+    for (int again = 1; again < 5; again++) {
+        double taken = seconds(identifiers, make, passes);
+        best = taken < best ? taken : best;
+    }
+    return best * 1e9 / (static_cast<double>(passes) * static_cast<double>(identifiers.size()));
+}
+
+std::vector<std::string> lines_of(const char *path) {
+    std::vector<std::string> lines;
+    std::ifstream file(path);
+    for (std::string line; std::getline(file, line);) {
+        lines.push_back(line);
+    }
+    return lines;
+}
+
+// Asked and the three results, parted by tabs; `-` where ICU refuses.
+void print(const std::vector<std::string> &identifiers) {
+    for (const std::string &identifier : identifiers) {
+        std::printf("%s", identifier.c_str());
+        for (Operation operation : operations) {
+            char out[512];
+            int32_t length = function_of(operation)(identifier.c_str(), out, sizeof out);
+            std::printf("\t%.*s", length ? length : 1, length ? out : "-");
+        }
+        std::printf("\n");
+    }
+}
+
+void say_versions() {
+    UVersionInfo version;
+    char cldr[U_MAX_VERSION_STRING_LENGTH];
+    UErrorCode status = U_ZERO_ERROR;
+    ulocdata_getCLDRVersion(version, &status);
+    u_versionToString(version, cldr);
+    std::fprintf(stderr, "ICU %s, CLDR %s\n", U_ICU_VERSION, U_SUCCESS(status) ? cldr : "?");
+}
+
+} // namespace
+
+int main(int argc, char **argv) {
+    bool printing = argc == 3 && std::strcmp(argv[1], "--print") == 0;
+    if (argc != 2 && !printing) {
+        std::fprintf(stderr, "usage: peer_icu [--print] FILE\n");
+        return 1;
+    }
+    std::vector<std::string> identifiers = lines_of(argv[argc - 1]);
+    if (identifiers.empty()) {
+        std::fprintf(stderr, "no identifiers in %s\n", argv[argc - 1]);
+        return 1;
+    }
+    if (printing) {
+        print(identifiers);
+        return 0;
+    }
+    say_versions();
+    for (Operation operation : operations) {
+        double taken = nanoseconds(identifiers, function_of(operation));
+        std::printf("%s\t%.1f\n", name_of(operation), taken);
+        std::fflush(stdout);
+    }
+    return sum == 0;
+}
