@@ -3,3 +3,4 @@ pub mod Lookups
 pub mod Delivered
 pub mod Makes
 pub mod Formed
+pub mod Checked

@@ -4,3 +4,4 @@ pub mod Forms
 pub mod Slices
 pub mod Both
 pub mod Answered
+pub mod Whole

@@ -5,3 +5,4 @@ pub mod parts;
 pub mod rows;
 pub mod tested;
 pub mod three;
+pub mod whole;

@@ -1,3 +1,4 @@
 pub mod Texts
 pub mod Listed
 pub mod Answered
+pub mod Whole

@@ -1,0 +1,81 @@
+-- From the tables' check to the whole operation. Assumes nothing.
+use mathlib.Core.Path.{_≡_, refl, sym, ap, _∙_}
+use mathlib.Core.Bool.{Bool, true, false}
+use mathlib.Core.List.{List, []}
+use mathlib.Core.Option.{Option, none}
+use Prim.Native.Nat.{ℕ}
+use Rattle.standard.specs.Delivery.{Bytes, Made as Making, given}
+use Rattle.standard.specs.Table.{TableFault, tablesOf, check}
+use Rattle.standard.specs.Make.{make, afterCheck, maximiseMade, minimiseMade}
+use Rattle.standard.proofs.Table.{check-less}
+use Rattle.standard.proofs.Whole.{aliases-only, narrow-likely}
+use Rattle.verdict.proofs.Ordered.{check-sorted}
+use Rattle.canonical.specs.declared.form.Canon.{Canon}
+use Rattle.canonical.specs.declared.form.Canon.the-variants.{Formed, Empty, TooLong, BadByte, BadSize, Misplaced, Repeated, Unfinished, Overlong}
+use Rattle.canonical.specs.Form.{outcomeOf}
+use Rattle.canonical.specs.Answer.{answerOf, refusedAnswer, refusedOf}
+use Rattle.canonical.specs.declared.delivery.Answer.{Answer}
+use Rattle.canonical.specs.Tested.{Tested}
+use Rattle.canonical.proofs.Delivers.{tested}
+use Rattle.likely.specs.declared.forms.Outcome.{Outcome}
+use Rattle.likely.specs.declared.forms.Outcome.the-variants.{Done, NoRow, Long, Short}
+use Rattle.likely.specs.declared.tested.Answered.{Answered}
+use Rattle.likely.specs.declared.tested.Answered.the-variants.{Refused, Made}
+use Rattle.likely.specs.Forms.{givenBy}
+use Rattle.likely.specs.Answered.{givenRefused, givenAnswered}
+use Rattle.likely.specs.Both.{TestedBoth, operationOf}
+use Rattle.likely.specs.Whole.{outcomeAnswer, answerBy, wholeMade}
+
+-- a refusal of canonicalising, as an answer
+pub refused-answer : (c : Canon) (out : Bytes) → answerOf (refusedOf c) out ≡ givenRefused (outcomeOf c []) out
+unfolding answerOf refusedOf refusedAnswer outcomeOf givenRefused
+refused-answer (Formed f) out = refl
+refused-answer Empty out = refl
+refused-answer TooLong out = refl
+refused-answer (BadByte at) out = refl
+refused-answer (BadSize at) out = refl
+refused-answer (Misplaced at) out = refl
+refused-answer (Repeated at) out = refl
+refused-answer (Unfinished at) out = refl
+refused-answer Overlong out = refl
+
+outcome-given : (o : Outcome) (out : Bytes) → answerOf (outcomeAnswer o) out ≡ givenBy o out
+unfolding answerOf outcomeAnswer refusedAnswer givenBy
+outcome-given (Done n) out = refl
+outcome-given NoRow out = refl
+outcome-given Long out = refl
+outcome-given Short out = refl
+
+pub answer-given : (a : Answered) (out : Bytes) → answerOf (answerBy a) out ≡ givenAnswered a out
+unfolding answerBy givenAnswered
+answer-given (Refused c) out = refused-answer c out
+answer-given (Made o) out = outcome-given o out
+
+-- tables that pass are as the inner operation asks
+pub tested-both : (A L : Bytes) → check true false A L [] ≡ none → TestedBoth A L
+tested-both A L e =
+    let w = narrow-likely A L ∙ e in
+    record {
+      passes = e;
+      aliases = tested A (aliases-only A L [] ∙ check-less false false A L [] w);
+      likely = check-sorted true false A L [] e .likely refl;
+    }
+
+-- nothing is refused for tables that pass
+pub whole-good : (b : Bool) (A L x : Bytes) → check true false A L [] ≡ none → wholeMade b A L x ≡ make (tablesOf A L []) (operationOf b) x
+unfolding wholeMade afterCheck
+whole-good b A L x e = ap (λ (o : Option TableFault). afterCheck o (make (tablesOf A L []) (operationOf b) x)) e
+
+pub whole-maximised : (A L x : Bytes) → wholeMade false A L x ≡ maximiseMade A L x
+unfolding wholeMade maximiseMade operationOf
+whole-maximised A L x = refl
+
+pub whole-minimised : (A L x : Bytes) → wholeMade true A L x ≡ minimiseMade A L x
+unfolding wholeMade minimiseMade operationOf
+whole-minimised A L x = refl
+
+-- what was made over tables that pass is the whole answer
+pub whole-answer : (b : Bool) (A L x : Bytes) (a : Answered) (r : Answer) (out out′ : Bytes) → check true false A L [] ≡ none → r ≡ answerBy a
+    → givenAnswered a out′ ≡ given (make (tablesOf A L []) (operationOf b) x) out → answerOf r out′ ≡ given (wholeMade b A L x) out
+whole-answer b A L x a r out out′ e f g =
+    ap (λ (q : Answer). answerOf q out′) f ∙ (answer-given a out′ ∙ (g ∙ ap (λ (m : Making). given m out) (sym (whole-good b A L x e))))

@@ -1,0 +1,86 @@
+-- From the tables' check to the whole chain. Assumes nothing.
+use mathlib.Core.Path.{_≡_, refl, ap, _∙_, sym}
+use mathlib.Core.Bool.{Bool, true, false, cond}
+use mathlib.Core.List.{[]}
+use mathlib.Core.Option.{Option, none, some, Option·some-ne-none}
+use Prim.Native.Nat.{ℕ, _≤_}
+use lib.Dec.{leb, leb→le}
+use lib.ListN.{length}
+use Rattle.standard.specs.Delivery.{Bytes, Made, given}
+use Rattle.standard.specs.Reading.{fault, read}
+use Rattle.standard.specs.Table.{TableFault, tooBig, inTable, firstTable, tablesOf, check}
+use Rattle.standard.specs.Make.{chainFrom, afterCheck, listMade}
+use Rattle.standard.proofs.Bytes.{true→T}
+use Rattle.standard.proofs.Table.{check-less}
+use Rattle.standard.proofs.Whole.{aliases-only, narrow-parents}
+use Rattle.verdict.proofs.Ordered.{check-sorted}
+use Rattle.canonical.specs.Answer.{answerOf, refusedAnswer}
+use Rattle.canonical.specs.declared.delivery.Answer.{Answer}
+use Rattle.canonical.proofs.Delivers.{tested}
+use Rattle.likely.proofs.Checked.{refused-answer}
+use Rattle.parents.specs.declared.lines.Listed.{Listed}
+use Rattle.parents.specs.declared.tested.Answered.{Answered}
+use Rattle.parents.specs.declared.tested.Answered.the-variants.{Refused, Lines}
+use Rattle.parents.specs.Answered.{TestedChain, givenListed, givenAnswered}
+use Rattle.parents.specs.Whole.{listedAnswer, answerBy}
+
+pub listing-fits : (l : Listed) → l .fits ≡ true → record { number = 0; table = 0; place = 0; len = l .end; steps = l .steps } ≡ listedAnswer l
+unfolding listedAnswer
+listing-fits l e = rw e
+
+pub listing-short : (l : Listed) → l .fits ≡ false → refusedAnswer 10 0 0 ≡ listedAnswer l
+unfolding listedAnswer
+listing-short l e = rw e
+
+listed-given : (l : Listed) (out : Bytes) → answerOf (listedAnswer l) out ≡ givenListed l out
+unfolding answerOf listedAnswer refusedAnswer givenListed
+listed-given l out = go (l .fits) refl
+  where
+    go : (b : Bool) → l .fits ≡ b → answerOf (listedAnswer l) out ≡ givenListed l out
+    go true e = rw e
+    go false e = rw e
+
+pub answer-given : (a : Answered) (out : Bytes) → answerOf (answerBy a) out ≡ givenAnswered a out
+unfolding answerBy givenAnswered
+answer-given (Refused c) out = refused-answer c out
+answer-given (Lines l) out = listed-given l out
+
+-- a table that passes is not too long
+after : (a b : Option TableFault) → firstTable a b ≡ none → (a ≡ none) × (b ≡ none)
+unfolding firstTable
+after none b e = (refl, e)
+after (some f) b e = absurd (Option·some-ne-none _ e)
+
+not-big : (n : ℕ) (x : Bytes) → inTable true n (tooBig x) ≡ none → length x ≤ 32768
+unfolding inTable tooBig
+not-big n x e = go (leb (length x) 32768) refl e
+  where
+    go : (b : Bool) → leb (length x) 32768 ≡ b → inTable true n (elim b [ true ↦ none | false ↦ fault 11 0 ]) ≡ none → length x ≤ 32768
+    go true f q = leb→le _ _ (true→T _ f)
+    go false f q = absurd (Option·some-ne-none _ q)
+
+parents-small : (A P : Bytes) → check false true A [] P ≡ none → length P ≤ 32768
+unfolding check
+parents-small A P e = not-big 3 P (after _ _ (after _ _ (after _ _ e .1) .1) .0)
+
+-- tables that pass are as the inner operation asks
+pub tested-chain : (A P : Bytes) → check false true A [] P ≡ none → TestedChain A P
+tested-chain A P e =
+    let w = narrow-parents A P ∙ e in
+    record {
+      passes = e;
+      aliases = tested A (aliases-only A [] P ∙ check-less false false A [] P w);
+      parents = check-sorted false true A [] P e .parents refl;
+      small = parents-small A P e;
+    }
+
+-- nothing is refused for tables that pass
+pub list-good : (A P x : Bytes) → check false true A [] P ≡ none → listMade A P x ≡ chainFrom (tablesOf A [] P) (read x)
+unfolding listMade afterCheck
+list-good A P x e = ap (λ (o : Option TableFault). afterCheck o (chainFrom (tablesOf A [] P) (read x))) e
+
+-- what was listed over tables that pass is the whole answer
+pub whole-answer : (A P x : Bytes) (a : Answered) (r : Answer) (out out′ : Bytes) → check false true A [] P ≡ none → r ≡ answerBy a
+    → givenAnswered a out′ ≡ given (chainFrom (tablesOf A [] P) (read x)) out → answerOf r out′ ≡ given (listMade A P x) out
+whole-answer A P x a r out out′ e f g =
+    ap (λ (q : Answer). answerOf q out′) f ∙ (answer-given a out′ ∙ (g ∙ ap (λ (m : Made). given m out) (sym (list-good A P x e))))
