@@ -1,9 +1,8 @@
 -- From the tables' check to the whole operation. Assumes nothing.
 use mathlib.Core.Path.{_≡_, refl, sym, ap, _∙_}
 use mathlib.Core.Bool.{Bool, true, false}
-use mathlib.Core.List.{List, []}
+use mathlib.Core.List.{[]}
 use mathlib.Core.Option.{Option, none}
-use Prim.Native.Nat.{ℕ}
 use Rattle.standard.specs.Delivery.{Bytes, Made as Making, given}
 use Rattle.standard.specs.Table.{TableFault, tablesOf, check}
 use Rattle.standard.specs.Make.{make, afterCheck, maximiseMade, minimiseMade}
@@ -15,7 +14,6 @@ use Rattle.canonical.specs.declared.form.Canon.the-variants.{Formed, Empty, Too
 use Rattle.canonical.specs.Form.{outcomeOf}
 use Rattle.canonical.specs.Answer.{answerOf, refusedAnswer, refusedOf}
 use Rattle.canonical.specs.declared.delivery.Answer.{Answer}
-use Rattle.canonical.specs.Tested.{Tested}
 use Rattle.canonical.proofs.Delivers.{tested}
 use Rattle.likely.specs.declared.forms.Outcome.{Outcome}
 use Rattle.likely.specs.declared.forms.Outcome.the-variants.{Done, NoRow, Long, Short}

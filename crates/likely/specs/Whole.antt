@@ -1,7 +1,6 @@
 -- Maximising and minimising, whole: document 01's number and values for each case of the answer. Assumes nothing.
 use mathlib.Core.Bool.{Bool, true, false}
 use mathlib.Core.List.{[]}
-use Prim.Native.Nat.{ℕ}
 use Rattle.standard.specs.Delivery.{Bytes, Made as Making}
 use Rattle.standard.specs.Table.{tablesOf, check}
 use Rattle.standard.specs.Make.{make, afterCheck}

@@ -1,5 +1,4 @@
 -- `likely::whole::operation` meets its contract. Assumes nothing.
-use Rattle.standard.specs.Make.{make}
 use Rattle.canonical.proofs.Delivers.{table-stands, table-good}
 use Rattle.likely.specs.Whole.{wholeMade}
 use Rattle.likely.proofs.Checked.{tested-both, whole-answer}
