@@ -1,0 +1,175 @@
+/* A host program: document 01's examples through the four exported functions. Every lent buffer is a block of its own
+ * with guard bytes around it. A refusal must write nothing, a result only its own bytes, and nothing else may change.
+ * Prints 'N passed, M failed'. */
+#include "altazhbey.h"
+#include <stdio.h>
+#include <stdlib.h>
+#include <string.h>
+
+enum { GUARD = 64, OUT = 512 };
+
+static const char ALIASES[] = "language\tiw\the\nlanguage\tsh\tsr-Latn\nregion\tBU\tMM\nvariant\theploc\talalc97\n";
+static const char LIKELY[] =
+    "de\tde-Latn-DE\nen\ten-Latn-US\nhe\the-Hebr-IL\nsr\tsr-Cyrl-RS\nsr-ME\tsr-Latn-ME\nund\ten-Latn-US\n"
+    "und-Hant\tzh-Hant-TW\nund-US\ten-Latn-US\nzh\tzh-Hans-CN\nzh-Hant\tzh-Hant-TW\nzh-TW\tzh-Hant-TW\n";
+static const char PARENTS[] = "en-AU\ten-001\nzh-Hant\tund\n";
+
+static int passed, failed;
+
+/* Bytes lent for a call, with guards; `was` holds the block as it was. */
+typedef struct { uint8_t *block, *was; size_t len; } lent;
+
+static lent lend(const void *bytes, size_t len) {
+    lent l = {malloc(len + 2 * GUARD), malloc(len + 2 * GUARD), len};
+    if (!l.block || !l.was) exit(2);
+    memset(l.block, 0xA5, len + 2 * GUARD);
+    if (bytes) memcpy(l.block + GUARD, bytes, len);
+    else for (size_t i = 0; i < len; i++) l.block[GUARD + i] = (uint8_t)(i * 7 + 3);
+    memcpy(l.was, l.block, len + 2 * GUARD);
+    return l;
+}
+
+/* Whether all but the first n lent bytes are as they were. */
+static int kept(const lent *l, size_t n) {
+    return !memcmp(l->block, l->was, GUARD) && !memcmp(l->block + GUARD + n, l->was + GUARD + n, l->len - n + GUARD);
+}
+
+static void give_back(lent *l) {
+    free(l->block);
+    free(l->was);
+}
+
+typedef enum { CANONICALISE, MAXIMISE, MINIMISE, CHAIN } operation;
+
+static uint64_t call(operation o, const lent *id, const lent *a, const lent *l, const lent *p, const lent *out) {
+#define LENT(x) (x)->block + GUARD, (x)->len
+    switch (o) {
+    case CANONICALISE: return altazhbey_canonicalise(LENT(id), LENT(a), LENT(out));
+    case MAXIMISE: return altazhbey_maximise(LENT(id), LENT(a), LENT(l), LENT(out));
+    case MINIMISE: return altazhbey_minimise(LENT(id), LENT(a), LENT(l), LENT(out));
+    default: return altazhbey_chain(LENT(id), LENT(a), LENT(p), LENT(out));
+    }
+#undef LENT
+}
+
+typedef struct { const void *bytes; size_t len; } part;
+typedef struct { part aliases, likely, parents; } tables;
+static const tables EXAMPLES = {{ALIASES, sizeof ALIASES - 1}, {LIKELY, sizeof LIKELY - 1}, {PARENTS, sizeof PARENTS - 1}};
+
+/* One call: the whole answer and all of the lent bytes, held against what is expected. */
+static void expect(operation o, part id, tables t, size_t room, unsigned number, unsigned table, size_t place, const char *result, unsigned steps) {
+    lent i = lend(id.bytes, id.len), a = lend(t.aliases.bytes, t.aliases.len), l = lend(t.likely.bytes, t.likely.len);
+    lent p = lend(t.parents.bytes, t.parents.len), out = lend(NULL, room);
+    uint64_t r = call(o, &i, &a, &l, &p, &out);
+    size_t len = number == 0 ? strlen(result) : 0;
+    int good = altazhbey_number(r) == number && altazhbey_table(r) == table && altazhbey_place(r) == place &&
+               altazhbey_length(r) == len && altazhbey_steps(r) == steps && len <= room &&
+               !memcmp(out.block + GUARD, result, len) && kept(&out, len) && kept(&i, 0) && kept(&a, 0) && kept(&l, 0) && kept(&p, 0);
+    if (good) passed++;
+    else {
+        failed++;
+        printf("operation %d of '%.*s': number %u table %u place %zu length %zu steps %u\n", (int)o, (int)(id.len < 60 ? id.len : 60),
+               (const char *)id.bytes, altazhbey_number(r), altazhbey_table(r), altazhbey_place(r), altazhbey_length(r), altazhbey_steps(r));
+    }
+    give_back(&i), give_back(&a), give_back(&l), give_back(&p), give_back(&out);
+}
+
+static part text(const char *s) { return (part){s, strlen(s)}; }
+
+/* A result at every length of output: 10 below its length, 0 from there on, with the bytes behind it untouched. */
+static void writes(operation o, const char *id, const char *result, unsigned steps) {
+    for (size_t room = 0; room < strlen(result); room++) expect(o, text(id), EXAMPLES, room, 10, 0, 0, "", 0);
+    expect(o, text(id), EXAMPLES, strlen(result), 0, 0, 0, result, steps);
+    expect(o, text(id), EXAMPLES, OUT, 0, 0, 0, result, steps);
+}
+
+static void refuses(operation o, const char *id, unsigned number, size_t place) {
+    expect(o, text(id), EXAMPLES, 0, number, 0, place, "", 0);
+    expect(o, text(id), EXAMPLES, OUT, number, 0, place, "", 0);
+}
+
+/* FRONT, 27 times `aaaaaaaa-`, then so many letters. */
+static const char *longer(const char *front, int letters) {
+    static char s[512];
+    strcpy(s, front);
+    for (int k = 0; k < 27; k++) strcat(s, "aaaaaaaa-");
+    for (int k = 0; k < letters; k++) strcat(s, "a");
+    return s;
+}
+
+static void examples(void) {
+    writes(CANONICALISE, "IW_il", "he-IL", 0);
+    writes(CANONICALISE, "sh-Arab-AQ", "sr-Arab-AQ", 0);
+    writes(CANONICALISE, "sh", "sr-Latn", 0);
+    writes(CANONICALISE, "en-US-u-KN-true-ca-gregory", "en-US-u-ca-gregory-kn", 0);
+    writes(CANONICALISE, "latn_us", "und-Latn-US", 0);
+    writes(CANONICALISE, "root", "und", 0);
+    writes(CANONICALISE, "ja-Latn-heploc-alalc97", "ja-Latn-alalc97", 0);
+    for (int o = CANONICALISE; o <= CHAIN; o++) {
+        refuses((operation)o, "en-US-Latn", 5, 6);
+        refuses((operation)o, "en-1994-1994", 6, 8);
+        refuses((operation)o, "en-u", 7, 3);
+        refuses((operation)o, "root-US", 5, 5);
+        refuses((operation)o, "", 1, 0);
+        refuses((operation)o, "en US", 3, 2);
+        refuses((operation)o, "en--US", 4, 3);
+        refuses((operation)o, "en-", 4, 3);
+        refuses((operation)o, longer("en-x-", 8), 2, 0);
+        refuses((operation)o, longer("Latn-x-", 5), 9, 0);
+    }
+    writes(MAXIMISE, "zh-TW", "zh-Hant-TW", 0);
+    writes(MAXIMISE, "und-Hant-US", "zh-Hant-US", 0);
+    writes(MAXIMISE, "en-Zzzz-GB", "en-Latn-GB", 0);
+    refuses(MAXIMISE, "fr", 8, 0);
+    refuses(MINIMISE, "fr", 8, 0);
+    writes(MAXIMISE, "fr-Latn-FR", "fr-Latn-FR", 0);
+    writes(MINIMISE, "zh-Hant-TW", "zh-TW", 0);
+    writes(MINIMISE, "sr-Latn-ME", "sr-ME", 0);
+    writes(MINIMISE, "und", "en", 0);
+    writes(MINIMISE, "iw_IL", "he", 0);
+    writes(CHAIN, "en-AU-u-ca-gregory", "en-AU\nen-001\nen\nund\n", 3);
+    writes(CHAIN, "zh-Hant-TW", "zh-Hant-TW\nzh-Hant\nund\n", 2);
+    writes(CHAIN, "und", "und\n", 0);
+    const char *whole = longer("en-x-", 7);
+    expect(CANONICALISE, text(whole), EXAMPLES, OUT, 0, 0, 0, whole, 0);
+    expect(CHAIN, text(whole), EXAMPLES, OUT, 0, 0, 0, "en\nund\n", 1);
+    refuses(MAXIMISE, whole, 9, 0); /* en-Latn-US with the same private use is 263 bytes */
+    refuses(MINIMISE, whole, 9, 0);
+}
+
+/* 11 to 14, each of the table that the operation uses, before anything is said of the identifier. */
+static void bad_tables(void) {
+    static char big[32769];
+    memset(big, 'a', sizeof big);
+    tables t = EXAMPLES;
+    t.aliases = (part){big, sizeof big};
+    for (int o = CANONICALISE; o <= CHAIN; o++) expect((operation)o, text("en-u"), t, OUT, 11, 1, 0, "", 0);
+    t.aliases = text("language\tiw\the\nlanguage\ten\n");
+    for (int o = CANONICALISE; o <= CHAIN; o++) expect((operation)o, text(""), t, OUT, 12, 1, 15, "", 0);
+    t.aliases = text("region\tBU\tMM\nlanguage\tiw\the\n");
+    for (int o = CANONICALISE; o <= CHAIN; o++) expect((operation)o, text("iw"), t, OUT, 13, 1, 13, "", 0);
+    t.aliases = text("language\the\tiw\nlanguage\tiw\tsr\n");
+    for (int o = CANONICALISE; o <= CHAIN; o++) expect((operation)o, text("iw"), t, 0, 14, 1, 0, "", 0);
+    t = EXAMPLES;
+    t.likely = text("en\ten-Latn-US\nde\tde-Latn-DE\n");
+    t.parents = text("en-AU\ten-001");
+    expect(CANONICALISE, text("iw"), t, OUT, 0, 0, 0, "he", 0);
+    expect(MAXIMISE, text("iw"), t, OUT, 13, 2, 14, "", 0);
+    expect(MINIMISE, text("iw"), t, OUT, 13, 2, 14, "", 0);
+    expect(CHAIN, text("iw"), t, OUT, 12, 3, 0, "", 0);
+    t.likely = text("de\tiw-Latn-DE\n");
+    t.parents = text("de\ten\nen\tde\n");
+    expect(MAXIMISE, text("iw"), t, OUT, 14, 2, 0, "", 0);
+    expect(CHAIN, text("iw"), t, OUT, 14, 3, 0, "", 0);
+    t = (tables){text(""), text(""), text("")};
+    expect(CANONICALISE, text("iw_IL"), t, OUT, 0, 0, 0, "iw-IL", 0);
+    expect(MAXIMISE, text("en"), t, OUT, 8, 0, 0, "", 0);
+    expect(CHAIN, text("en-AU"), t, OUT, 0, 0, 0, "en-AU\nen\nund\n", 2);
+}
+
+int main(void) {
+    examples();
+    bad_tables();
+    printf("%d passed, %d failed\n", passed, failed);
+    return failed != 0;
+}
