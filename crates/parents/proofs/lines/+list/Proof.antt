@@ -1,7 +1,7 @@
 use mathlib.Core.Path.{refl}
 use native.Mathlib.Omega.{arith}
 use borrow.Author.Needs.{needs}
-use Rattle.parents.proofs.Writing.{bounded-one, bounded-more, front-fits, chain-none, chain-und, chain-more, chain-some, rest-lists, lists-more, lists-as}
+use Rattle.parents.proofs.Writing.{root-le, bounded-one, bounded-more, front-fits, chain-none, chain-und, chain-more, chain-some, rest-lists, lists-more, lists-as}
 use Prim.Native.Nat.{ℕ, _<_}
 use borrow.Fn.Kinds.{In}
 use borrow.Fn.PlainCycle.{Measures, is, falls, and}
@@ -240,8 +240,10 @@ list-list-requires : (t : ℕ) → list-lts.Need-list-requires (
   add-line-reads.Learnt,
 ) (list-at t) list.Post
 list-list-requires t c κs =
-    let p = c .before .before .before .before .before .before .before .before .before .before .pre .1 in
-    (omega arith, (c .before .before .parent-of .ensures .0, p .1, p .2, omega arith, omega arith))
+    let b = c .before .before .before .before .before .before .before .before .before .before in
+    let p = b .pre .1 in
+    let r = root-le (b .args .root .now) (p .2) in
+    (omega arith, (omega (arith, c .before .before .parent-of .ensures .0, r), p .1, p .2, omega arith, omega arith))
 
 list-add-line-requires : (t : ℕ) → list-lts.Need-add-line-requires (
   last-line-reads.Asked,
