@@ -17,7 +17,7 @@ use borrow.Author.Tests.{eq-eqb, ne-eqb}
 use Rattle.standard.specs.Tag.{Tag, onto}
 use Rattle.standard.specs.Table.{Found as Located, pieces, after, rows, lookup, locatedFrom, located}
 use Rattle.table.specs.declared.Found.{Found}
-use Rattle.table.specs.Lines.{endOf, lines, starts, foundIs, valueOf, valueIf}
+use Rattle.table.specs.Lines.{endOf, lines, starts, foundIs, noRow, rowAt, valueOf, valueIf}
 use Rattle.table.specs.Search.{rowFrom}
 
 pub cond-same : {A : Type 0} (b : Bool) (a : A) → cond b a a ≡ a
@@ -143,12 +143,6 @@ after-starts (x ∷ p) (y ∷ l) = go (eqb x y) refl (after-starts p l)
         → after (x ∷ p) (y ∷ l) ≡ cond (cond b (starts p l) false) (some (drop (length p) l)) none
     go true e h = rw (e, after) h
     go false e h = rw (e, after)
-
-abbrev pub noRow : Located
-noRow = record { found = false; start = 0; len = 0 }
-
-abbrev pub rowAt : ℕ → ℕ → Located
-rowAt start len = record { found = true; start = start; len = len }
 
 pub located-cons : (at : ℕ) (l : Tag) (ls : List Tag) (key : List ℕ)
     → locatedFrom at (l ∷ ls) key ≡ cond (starts (key ++ (9 ∷ [])) l) (rowAt (at + suc (length key)) (length (drop (length (key ++ (9 ∷ []))) l))) (locatedFrom (at + suc (length l)) ls key)

@@ -1,7 +1,7 @@
 -- Laws of sorted tables: the order of lines, and what a probe of a sorted table shows.
 -- Assumes nothing.
 use mathlib.Core.Path.{_≡_, refl, sym, ap, _∙_}
-use mathlib.Core.Bool.{Bool, true, false, cond, not}
+use mathlib.Core.Bool.{Bool, true, false, cond}
 use mathlib.Core.List.{List, [], _∷_, _++_}
 use Prim.Native.Nat.{ℕ, zero, suc, _+_, _-_, _≤_, _<_, zero-le, suc-le-suc}
 use native.Mathlib.Nat.{le-of-suc-le-suc, not-suc-le-zero, sub-zero, suc-sub-suc, le-antisymm}
@@ -14,9 +14,9 @@ use borrow.Author.Tests.{eq-eqb, ne-eqb, lt-ltb, le-ltb, ltb-true, ltb-false, eq
 use Rattle.standard.specs.Tag.{onto}
 use Rattle.standard.specs.Identifier.{parts}
 use Rattle.standard.specs.Table.{located, locatedFrom}
-use Rattle.table.specs.Lines.{endOf, lines, starts}
+use Rattle.table.specs.Lines.{endOf, lines, starts, noRow}
 use Rattle.table.specs.Search.{below, ascendFrom, ascend, Opens, Sorted, rowFrom, notBelow, LineStart, Landed, Span}
-use Rattle.table.proofs.Lines.{noRow, located-cons, lines-at, ends, row-start}
+use Rattle.table.proofs.Lines.{located-cons, lines-at, ends, row-start}
 
 -- two numbers, compared
 pub data Cmp (x y : ℕ) : Type 0 where
@@ -255,6 +255,10 @@ pub opens-after : (t : List ℕ) (m : ℕ) → 0 < m → getD t (m - 1) 0 ≡ 10
 opens-after t zero h e = absurd (not-suc-le-zero h)
 opens-after t (suc m) h e = let z : suc m - 1 ≡ m = omega arith in rw z at e
 
+pub opens-before : (t : List ℕ) (m : ℕ) → 0 < m → Opens t m → getD t (m - 1) 0 ≡ 10
+opens-before t zero h e = absurd (not-suc-le-zero h)
+opens-before t (suc m) h e = let z : suc m - 1 ≡ m = omega arith in rw z e
+
 pub end-in : (t : List ℕ) (i hi : ℕ) → i < hi → hi ≤ length t → Opens t hi → endOf 10 t i < hi
 unfolding endOf
 end-in t i zero g h o = absurd (not-suc-le-zero g)
@@ -268,7 +272,7 @@ end-in (x ∷ t) zero (suc (suc hi)) g h o = go (end-in t zero (suc hi) (suc-le-
 end-in (x ∷ t) (suc i) (suc zero) g h o = absurd (not-suc-le-zero (le-of-suc-le-suc g))
 end-in (x ∷ t) (suc i) (suc (suc hi)) g h o = suc-le-suc (end-in t i (suc hi) (le-of-suc-le-suc g) (le-of-suc-le-suc h) o)
 
-end-byte : (t : List ℕ) (i : ℕ) → endOf 10 t i < length t → getD t (endOf 10 t i) 0 ≡ 10
+pub end-byte : (t : List ℕ) (i : ℕ) → endOf 10 t i < length t → getD t (endOf 10 t i) 0 ≡ 10
 unfolding endOf
 end-byte [] i h = absurd (not-suc-le-zero h)
 end-byte (x ∷ t) zero h = go (end-byte t zero) (eqb x 10) refl h

@@ -31,6 +31,13 @@ starts (x ∷ p) (y ∷ l) = cond (eqb x y) (starts p l) false
 abbrev pub foundIs : Found → Located
 foundIs f = record { found = f .found; start = f .start; len = f .len }
 
+-- the answer where there is no row, and where there is one
+abbrev pub noRow : Located
+noRow = record { found = false; start = 0; len = 0 }
+
+abbrev pub rowAt : ℕ → ℕ → Located
+rowAt start len = record { found = true; start = start; len = len }
+
 -- the part of the table that an answer names
 abbrev pub valueOf : List ℕ → Located → List ℕ
 valueOf t f = take (f .len) (drop (f .start) t)

@@ -8,6 +8,8 @@ ghost use Rattle.standard.specs.Table.{located};
 ghost use Rattle.table.specs.Lines.{endOf, starts, foundIs, valueOf};
 ghost use Rattle.table.specs.Search.{below, Sorted, LineStart, Landed};
 
+pub mod hints;
+
 // The index of the first byte b at or after `from`, or the length.
 pub fn end_of(s: &[u8], b: u8, from: usize) -> usize
     ensures { λ r. ⌜ r ≡ endOf b (now (s .entry)) from ⌝ }
