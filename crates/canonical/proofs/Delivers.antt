@@ -28,7 +28,8 @@ use Rattle.canonical.specs.declared.delivery.Answer.{Answer}
 use Rattle.canonical.specs.declared.form.Form.{Form}
 use Rattle.canonical.specs.declared.form.Canon.{Canon}
 use Rattle.canonical.specs.declared.form.Canon.the-variants.{Formed, Empty, TooLong, BadByte, BadSize, Misplaced, Repeated, Unfinished, Overlong}
-use Rattle.canonical.specs.Tested.{Tested}
+use Rattle.table.specs.Hints.{Hinted}
+use Rattle.canonical.specs.Tested.{Tested, TestedWith}
 use Rattle.canonical.specs.Form.{Outcome, form, refusal, outcomeOf, formed, canonicalOf, outcome, FormFits}
 use Rattle.canonical.specs.Answer.{answerOf, refusedAnswer, refusedOf, refusedTable, madeOf}
 
@@ -108,6 +109,9 @@ tested A e =
     let f₃ = first-none _ _ (f₂ .1) in
     let f₄ = first-none _ _ (f₃ .1) in
     record { passes = e; sorted = sorted-rows.sorted Aliases A (in-none 1 _ (f₄ .0)) }
+
+pub tested-with : (A hints : List ℕ) → check false false A [] [] ≡ none → Hinted A hints → TestedWith A hints
+tested-with A hints e h = record { passes = e; indexed = record { sorted = (tested A e) .sorted; hinted = h } }
 
 -- The check comes first.
 pub table-stands : {n t p : ℕ} (v : Verdict) (o : Option TableFault) (m : Made) (out : List ℕ) (r : Answer) → v ≡ Bad n t p → r ≡ refusedTable v → verdictIs v ≡ o → answerOf r out ≡ given (afterCheck o m) out

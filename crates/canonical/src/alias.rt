@@ -1,7 +1,7 @@
 // One subtag through the alias table: the key of its lookup is the kind's name, a tab and the subtag in canonical case.
 use subtag::tidy;
 use subtag::upper;
-use table::lookup_sorted;
+use table::hints::lookup_hinted;
 ghost use mathlib.Core.Path.{_≡_};
 ghost use mathlib.Core.List.{map};
 ghost use Prim.Native.Nat.{_+_, _≤_};
@@ -11,7 +11,7 @@ ghost use Rattle.standard.specs.Tag.{pick};
 ghost use Rattle.subtag.specs.Bytes.{tidyByte};
 ghost use Rattle.standard.specs.Reading.{optional};
 ghost use Rattle.standard.specs.Table.{lookup, rows};
-ghost use Rattle.table.specs.Search.{Sorted};
+ghost use Rattle.table.specs.Hints.{Indexed};
 ghost use Rattle.canonical.specs.Section.{led};
 ghost use Rattle.canonical.specs.Alias.{raised, raisedByte, replacedBy, aliasedPart};
 
@@ -64,12 +64,19 @@ fn put_first(given: &[u8], count: usize, brought: &[u8], out: &mut [u8], at: usi
 
 // Writes what the aliases make of a subtag, which stands from skip on in the key of its lookup: the row's value, or the
 // subtag itself.
-pub fn put_replaced(key: &[u8], skip: usize, aliases: &[u8], out: &mut [u8], at: usize) -> usize
-    requires { ⌜ (skip ≤ length (now key)) × Sorted (now aliases) × (at + length (replacedBy (lookup (rows (now aliases)) (now key)) (drop skip (now key))) ≤ length (now out)) ⌝ }
+pub fn put_replaced(
+    key: &[u8],
+    skip: usize,
+    aliases: &[u8],
+    hints: &[u16],
+    out: &mut [u8],
+    at: usize,
+) -> usize
+    requires { ⌜ (skip ≤ length (now key)) × Indexed (now aliases) (now hints) × (at + length (replacedBy (lookup (rows (now aliases)) (now key)) (drop skip (now key))) ≤ length (now out)) ⌝ }
     ensures { λ r. ⌜ (r ≡ at + length (replacedBy (lookup (rows (now (aliases .entry))) (now (key .entry))) (drop skip (now (key .entry))))) × (now (out .exit) ≡ sets (now (out .entry)) at (replacedBy (lookup (rows (now (aliases .entry))) (now (key .entry))) (drop skip (now (key .entry))))) ⌝ }
 {
     let mut found = false;
-    let value = lookup_sorted(aliases, key, &mut found);
+    let value = lookup_hinted(aliases, hints, key, &mut found);
     if found {
         return put(value, out, at);
     }
@@ -89,12 +96,19 @@ fn put_led(src: &[u8], out: &mut [u8], at: usize) -> usize
 }
 
 // As put_replaced, with the separator.
-fn write_replaced(key: &[u8], skip: usize, aliases: &[u8], out: &mut [u8], at: usize) -> usize
-    requires { ⌜ (skip ≤ length (now key)) × Sorted (now aliases) × (at + length (led (optional (replacedBy (lookup (rows (now aliases)) (now key)) (drop skip (now key))))) ≤ length (now out)) ⌝ }
+fn write_replaced(
+    key: &[u8],
+    skip: usize,
+    aliases: &[u8],
+    hints: &[u16],
+    out: &mut [u8],
+    at: usize,
+) -> usize
+    requires { ⌜ (skip ≤ length (now key)) × Indexed (now aliases) (now hints) × (at + length (led (optional (replacedBy (lookup (rows (now aliases)) (now key)) (drop skip (now key))))) ≤ length (now out)) ⌝ }
     ensures { λ r. ⌜ (r ≡ at + length (led (optional (replacedBy (lookup (rows (now (aliases .entry))) (now (key .entry))) (drop skip (now (key .entry))))))) × (now (out .exit) ≡ sets (now (out .entry)) at (led (optional (replacedBy (lookup (rows (now (aliases .entry))) (now (key .entry))) (drop skip (now (key .entry))))))) ⌝ }
 {
     let mut found = false;
-    let value = lookup_sorted(aliases, key, &mut found);
+    let value = lookup_hinted(aliases, hints, key, &mut found);
     if found {
         return put_led(value, out, at);
     }
@@ -109,10 +123,11 @@ pub fn write_aliased(
     brought: &[u8],
     name: &[u8],
     aliases: &[u8],
+    hints: &[u16],
     out: &mut [u8],
     at: usize,
 ) -> usize
-    requires { ⌜ (length (now given) ≤ 8) × (length (now brought) ≤ 8) × (length (now name) ≤ 9) × Sorted (now aliases) × (at + length (aliasedPart (now aliases) (now name) (pick (raised count (map tidyByte (now given))) (now brought))) ≤ length (now out)) ⌝ }
+    requires { ⌜ (length (now given) ≤ 8) × (length (now brought) ≤ 8) × (length (now name) ≤ 9) × Indexed (now aliases) (now hints) × (at + length (aliasedPart (now aliases) (now name) (pick (raised count (map tidyByte (now given))) (now brought))) ≤ length (now out)) ⌝ }
     ensures { λ r. ⌜ (r ≡ at + length (aliasedPart (now (aliases .entry)) (now (name .entry)) (pick (raised count (map tidyByte (now (given .entry)))) (now (brought .entry))))) × (now (out .exit) ≡ sets (now (out .entry)) at (aliasedPart (now (aliases .entry)) (now (name .entry)) (pick (raised count (map tidyByte (now (given .entry)))) (now (brought .entry))))) ⌝ }
 {
     let mut key = [0u8; 32];
@@ -121,5 +136,5 @@ pub fn write_aliased(
     if e <= n {
         return at;
     }
-    write_replaced(&key[..e], n, aliases, out, at)
+    write_replaced(&key[..e], n, aliases, hints, out, at)
 }

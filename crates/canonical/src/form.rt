@@ -16,8 +16,9 @@ ghost use lib.ListN.{length};
 ghost use lib.Seq.{sets};
 ghost use Rattle.standard.specs.Reading.{split, faultOf, print};
 ghost use Rattle.standard.specs.Table.{check};
+ghost use Rattle.table.specs.Hints.{Hinted};
 ghost use Rattle.reader.specs.Parts.{partsOf};
-ghost use Rattle.canonical.specs.Tested.{Tested};
+ghost use Rattle.canonical.specs.Tested.{TestedWith};
 ghost use Rattle.canonical.specs.Form.{hyphenOf, hyphens, formOf, outcomeOf, outcome, accepted, unreadOf, FormFits};
 
 // Where the parts of the canonical form end in its bytes. Language, script and region stand at the front, so that each
@@ -70,18 +71,18 @@ fn count_subtags(s: &[u8]) -> usize
 }
 
 // Writes the canonical form of an identifier that was read.
-fn write_form(id: &[u8], p: Parts, aliases: &[u8], out: &mut [u8]) -> Form
-    requires { ⌜ (faultOf (now id) ≡ none) × (p ≡ partsOf (split (now id))) × Tested (now aliases) × (length (now out) ≡ 512) ⌝ }
+fn write_form(id: &[u8], p: Parts, aliases: &[u8], hints: &[u16], out: &mut [u8]) -> Form
+    requires { ⌜ (faultOf (now id) ≡ none) × (p ≡ partsOf (split (now id))) × TestedWith (now aliases) (now hints) × (length (now out) ≡ 512) ⌝ }
     ensures { λ r. ⌜ (r ≡ formOf (accepted (now (aliases .entry)) (now (id .entry)))) × (r .len ≡ length (print (accepted (now (aliases .entry)) (now (id .entry))))) × (now (out .exit) ≡ sets (now (out .entry)) 0 (print (accepted (now (aliases .entry)) (now (id .entry))))) ⌝ }
 {
-    let ends = write_three(id, p, aliases, out);
+    let ends = write_three(id, p, aliases, hints, out);
     let language = ends.language;
     let script = ends.script;
     let region = ends.region;
     let a = p.region;
     let b = p.variants;
     let c = p.extensions;
-    let variants = write_variants(&id[a..b], aliases, out, region);
+    let variants = write_variants(&id[a..b], aliases, hints, out, region);
     let extensions = write_extensions(&id[b..c], out, variants);
     let len = put_tidy(&id[c..], out, extensions);
     let count = count_subtags(&out[region..variants]);
@@ -113,15 +114,15 @@ fn unread(reading: Reading) -> Canon
 }
 
 // Canonicalises an identifier into out, over aliases that passed the check. Where reading refuses, its answer stands.
-pub fn canonical_form(id: &[u8], aliases: &[u8], out: &mut [u8]) -> Canon
-    requires { ⌜ (check false false (now aliases) [] [] ≡ none) × (length (now out) ≡ 512) ⌝ }
+pub fn canonical_form(id: &[u8], aliases: &[u8], hints: &[u16], out: &mut [u8]) -> Canon
+    requires { ⌜ (check false false (now aliases) [] [] ≡ none) × (length (now out) ≡ 512) × Hinted (now aliases) (now hints) ⌝ }
     ensures { λ r. ⌜ (outcomeOf r (now (out .exit)) ≡ outcome (now (aliases .entry)) (now (id .entry))) × FormFits r ⌝ }
 {
     let reading = read_parts(id);
     let Reading::Read(p) = reading else {
         return unread(reading);
     };
-    let f = write_form(id, p, aliases, out);
+    let f = write_form(id, p, aliases, hints, out);
     if 255 < f.len {
         return Canon::Overlong;
     }

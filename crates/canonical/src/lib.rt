@@ -16,6 +16,7 @@ ghost use Rattle.standard.specs.Calls.{canonicalise as canonicalising};
 ghost use Rattle.standard.specs.Delivery.{given};
 ghost use Rattle.standard.specs.Make.{make, canonicaliseMade};
 ghost use Rattle.standard.specs.Table.{tablesOf, check};
+ghost use Rattle.table.specs.Hints.{Hinted};
 ghost use Rattle.canonical.specs.Answer.{answerOf};
 
 pub mod alias;
@@ -29,12 +30,12 @@ pub mod three;
 pub mod variants;
 
 // Canonicalises an identifier over aliases that passed the check.
-pub fn canonicalise_tested(id: &[u8], aliases: &[u8], out: &mut [u8]) -> Answer
-    requires { ⌜ check false false (now aliases) [] [] ≡ none ⌝ }
+pub fn canonicalise_tested(id: &[u8], aliases: &[u8], hints: &[u16], out: &mut [u8]) -> Answer
+    requires { ⌜ (check false false (now aliases) [] [] ≡ none) × Hinted (now aliases) (now hints) ⌝ }
     ensures { λ r. ⌜ answerOf r (now (out .exit)) ≡ given (make (tablesOf (now (aliases .entry)) [] []) canonicalising (now (id .entry))) (now (out .entry)) ⌝ }
 {
     let mut form = buffer();
-    let c = canonical_form(id, aliases, &mut form);
+    let c = canonical_form(id, aliases, hints, &mut form);
     let Canon::Formed(f) = c else {
         return refused(c);
     };
@@ -51,5 +52,6 @@ pub fn canonicalise(id: &[u8], aliases: &[u8], out: &mut [u8]) -> Answer
     let Verdict::Good = v else {
         return refused_table(v);
     };
-    canonicalise_tested(id, aliases, out)
+    let none = [0u16; 1];
+    canonicalise_tested(id, aliases, &none[..0], out)
 }

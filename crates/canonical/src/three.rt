@@ -14,8 +14,8 @@ ghost use lib.Seq.{sets};
 ghost use Rattle.standard.specs.Reading.{split, faultOf};
 ghost use Rattle.standard.specs.Table.{printThree};
 ghost use Rattle.reader.specs.Parts.{partsOf};
-ghost use Rattle.table.specs.Search.{Sorted};
-ghost use Rattle.canonical.specs.Tested.{Tested};
+ghost use Rattle.table.specs.Hints.{Indexed};
+ghost use Rattle.canonical.specs.Tested.{TestedWith};
 ghost use Rattle.canonical.specs.Three.{endsOf, languageLookup, languageWord, canonicalThree, afterSeparator, scriptStart, scriptEnd, scriptBytes, regionBytes};
 
 // Where language, script and region end; an absent one ends where the one before it does.
@@ -65,15 +65,25 @@ fn write_script(
     from: usize,
     to: usize,
     aliases: &[u8],
+    hints: &[u16],
     out: &mut [u8],
     at: usize,
 ) -> usize
-    requires { ⌜ (language ≤ script) × (script ≤ length (now id)) × (script - scriptStart language script ≤ 8) × (from ≤ to) × (to ≤ length (now w)) × (to - afterSeparator from to ≤ 8) × Sorted (now aliases) × (at + length (scriptBytes (now aliases) (now id) language script (now w) from to) ≤ length (now out)) ⌝ }
+    requires { ⌜ (language ≤ script) × (script ≤ length (now id)) × (script - scriptStart language script ≤ 8) × (from ≤ to) × (to ≤ length (now w)) × (to - afterSeparator from to ≤ 8) × Indexed (now aliases) (now hints) × (at + length (scriptBytes (now aliases) (now id) language script (now w) from to) ≤ length (now out)) ⌝ }
     ensures { λ r. ⌜ (r ≡ at + length (scriptBytes (now (aliases .entry)) (now (id .entry)) language script (now (w .entry)) from to)) × (now (out .exit) ≡ sets (now (out .entry)) at (scriptBytes (now (aliases .entry)) (now (id .entry)) language script (now (w .entry)) from to)) ⌝ }
 {
     let g = script_start(language, script);
     let f = after_separator(from, to);
-    write_aliased(&id[g..script], 1, &w[f..to], b"script\t", aliases, out, at)
+    write_aliased(
+        &id[g..script],
+        1,
+        &w[f..to],
+        b"script\t",
+        aliases,
+        hints,
+        out,
+        at,
+    )
 }
 
 // Writes the region likewise.
@@ -85,15 +95,25 @@ fn write_region(
     from: usize,
     to: usize,
     aliases: &[u8],
+    hints: &[u16],
     out: &mut [u8],
     at: usize,
 ) -> usize
-    requires { ⌜ (script ≤ region) × (region ≤ length (now id)) × (region - afterSeparator script region ≤ 8) × (from ≤ to) × (to ≤ length (now w)) × (to - afterSeparator from to ≤ 8) × Sorted (now aliases) × (at + length (regionBytes (now aliases) (now id) script region (now w) from to) ≤ length (now out)) ⌝ }
+    requires { ⌜ (script ≤ region) × (region ≤ length (now id)) × (region - afterSeparator script region ≤ 8) × (from ≤ to) × (to ≤ length (now w)) × (to - afterSeparator from to ≤ 8) × Indexed (now aliases) (now hints) × (at + length (regionBytes (now aliases) (now id) script region (now w) from to) ≤ length (now out)) ⌝ }
     ensures { λ r. ⌜ (r ≡ at + length (regionBytes (now (aliases .entry)) (now (id .entry)) script region (now (w .entry)) from to)) × (now (out .exit) ≡ sets (now (out .entry)) at (regionBytes (now (aliases .entry)) (now (id .entry)) script region (now (w .entry)) from to)) ⌝ }
 {
     let g = after_separator(script, region);
     let f = after_separator(from, to);
-    write_aliased(&id[g..region], 8, &w[f..to], b"region\t", aliases, out, at)
+    write_aliased(
+        &id[g..region],
+        8,
+        &w[f..to],
+        b"region\t",
+        aliases,
+        hints,
+        out,
+        at,
+    )
 }
 
 // Writes the key of the language's lookup: the kind's name and the language, `und` where there is none.
@@ -112,18 +132,18 @@ fn put_language(id: &[u8], p: Parts, out: &mut [u8]) -> usize
 }
 
 // Writes the language's alias, or the language itself where it has none, and gives its length.
-fn resolve_language(id: &[u8], p: Parts, aliases: &[u8], word: &mut [u8]) -> usize
-    requires { ⌜ (faultOf (now id) ≡ none) × (p ≡ partsOf (split (now id))) × Tested (now aliases) × (length (now word) ≡ 32) ⌝ }
+fn resolve_language(id: &[u8], p: Parts, aliases: &[u8], hints: &[u16], word: &mut [u8]) -> usize
+    requires { ⌜ (faultOf (now id) ≡ none) × (p ≡ partsOf (split (now id))) × TestedWith (now aliases) (now hints) × (length (now word) ≡ 32) ⌝ }
     ensures { λ r. ⌜ (r ≡ length (languageWord (now (aliases .entry)) (now (id .entry)))) × (r ≤ 17) × (now (word .exit) ≡ sets (now (word .entry)) 0 (languageWord (now (aliases .entry)) (now (id .entry)))) ⌝ }
 {
     let mut key = [0u8; 32];
     let n = put_language(id, p, &mut key);
-    put_replaced(&key[..n], 9, aliases, word, 0)
+    put_replaced(&key[..n], 9, aliases, hints, word, 0)
 }
 
 // Writes the three, with w the language's alias or the language.
-fn write_from(id: &[u8], p: Parts, w: &[u8], aliases: &[u8], out: &mut [u8]) -> Ends
-    requires { ⌜ (faultOf (now id) ≡ none) × (p ≡ partsOf (split (now id))) × Tested (now aliases) × (now w ≡ languageWord (now aliases) (now id)) × (17 ≤ length (now out)) ⌝ }
+fn write_from(id: &[u8], p: Parts, w: &[u8], aliases: &[u8], hints: &[u16], out: &mut [u8]) -> Ends
+    requires { ⌜ (faultOf (now id) ≡ none) × (p ≡ partsOf (split (now id))) × TestedWith (now aliases) (now hints) × (now w ≡ languageWord (now aliases) (now id)) × (17 ≤ length (now out)) ⌝ }
     ensures { λ r. ⌜ (r ≡ endsOf (canonicalThree (now (aliases .entry)) (now (id .entry)))) × (now (out .exit) ≡ sets (now (out .entry)) 0 (printThree (canonicalThree (now (aliases .entry)) (now (id .entry))))) ⌝ }
 {
     let len = w.len();
@@ -133,8 +153,8 @@ fn write_from(id: &[u8], p: Parts, w: &[u8], aliases: &[u8], out: &mut [u8]) -> 
     let m = p.script;
     let r = p.region;
     let language = put(&w[..e], out, 0);
-    let script = write_script(id, l, m, w, e, s, aliases, out, language);
-    let region = write_region(id, m, r, w, s, len, aliases, out, script);
+    let script = write_script(id, l, m, w, e, s, aliases, hints, out, language);
+    let region = write_region(id, m, r, w, s, len, aliases, hints, out, script);
     Ends {
         language,
         script,
@@ -143,11 +163,11 @@ fn write_from(id: &[u8], p: Parts, w: &[u8], aliases: &[u8], out: &mut [u8]) -> 
 }
 
 // Writes language, script and region of the canonical form at the front of out.
-pub fn write_three(id: &[u8], p: Parts, aliases: &[u8], out: &mut [u8]) -> Ends
-    requires { ⌜ (faultOf (now id) ≡ none) × (p ≡ partsOf (split (now id))) × Tested (now aliases) × (17 ≤ length (now out)) ⌝ }
+pub fn write_three(id: &[u8], p: Parts, aliases: &[u8], hints: &[u16], out: &mut [u8]) -> Ends
+    requires { ⌜ (faultOf (now id) ≡ none) × (p ≡ partsOf (split (now id))) × TestedWith (now aliases) (now hints) × (17 ≤ length (now out)) ⌝ }
     ensures { λ r. ⌜ (r ≡ endsOf (canonicalThree (now (aliases .entry)) (now (id .entry)))) × (now (out .exit) ≡ sets (now (out .entry)) 0 (printThree (canonicalThree (now (aliases .entry)) (now (id .entry))))) ⌝ }
 {
     let mut word = [0u8; 32];
-    let m = resolve_language(id, p, aliases, &mut word);
-    write_from(id, p, &word[..m], aliases, out)
+    let m = resolve_language(id, p, aliases, hints, &mut word);
+    write_from(id, p, &word[..m], aliases, hints, out)
 }

@@ -10,14 +10,14 @@ ghost use lib.ListN.{length};
 ghost use lib.Seq.{sets};
 ghost use Rattle.standard.specs.Identifier.{canonicalVariants};
 ghost use Rattle.standard.specs.Table.{tablesOf};
-ghost use Rattle.table.specs.Search.{Sorted};
+ghost use Rattle.table.specs.Hints.{Indexed};
 ghost use Rattle.canonical.specs.Section.{tagsOf, led, Led, Plain};
-ghost use Rattle.canonical.specs.Tested.{Tested};
+ghost use Rattle.canonical.specs.Tested.{TestedWith};
 ghost use Rattle.canonical.specs.Variants.{resolved, EachVariant};
 
 // Writes what the aliases make of each variant of the section s, with its separator.
-fn resolve_variants(s: &[u8], aliases: &[u8], out: &mut [u8]) -> usize
-    requires { ⌜ Led (now s) × Plain (tagsOf (now s)) × Sorted (now aliases) × (length (resolved (now aliases) (tagsOf (now s))) ≤ length (now out)) ⌝ }
+fn resolve_variants(s: &[u8], aliases: &[u8], hints: &[u16], out: &mut [u8]) -> usize
+    requires { ⌜ Led (now s) × Plain (tagsOf (now s)) × Indexed (now aliases) (now hints) × (length (resolved (now aliases) (tagsOf (now s))) ≤ length (now out)) ⌝ }
     ensures { λ r. ⌜ (r ≡ length (resolved (now (aliases .entry)) (tagsOf (now (s .entry))))) × (now (out .exit) ≡ sets (now (out .entry)) 0 (resolved (now (aliases .entry)) (tagsOf (now (s .entry))))) ⌝ }
 {
     let n = s.len();
@@ -27,21 +27,30 @@ fn resolve_variants(s: &[u8], aliases: &[u8], out: &mut [u8]) -> usize
         let start = at + 1;
         let t = judge(&s[start..]);
         let stop = start + t.len;
-        end = write_aliased(&s[start..stop], 0, &s[..0], b"variant\t", aliases, out, end);
+        end = write_aliased(
+            &s[start..stop],
+            0,
+            &s[..0],
+            b"variant\t",
+            aliases,
+            hints,
+            out,
+            end,
+        );
         at = stop;
     }
     end
 }
 
 // Writes the variants of the canonical form, from those of the section s.
-pub fn write_variants(s: &[u8], aliases: &[u8], out: &mut [u8], at: usize) -> usize
-    requires { ⌜ Led (now s) × Plain (tagsOf (now s)) × EachVariant (tagsOf (now s)) × Tested (now aliases) × (length (now s) ≤ 255) × (at + 459 ≤ length (now out)) ⌝ }
+pub fn write_variants(s: &[u8], aliases: &[u8], hints: &[u16], out: &mut [u8], at: usize) -> usize
+    requires { ⌜ Led (now s) × Plain (tagsOf (now s)) × EachVariant (tagsOf (now s)) × TestedWith (now aliases) (now hints) × (length (now s) ≤ 255) × (at + 459 ≤ length (now out)) ⌝ }
     ensures { λ r. ⌜ (r ≡ at + length (led (canonicalVariants (tablesOf (now (aliases .entry)) [] []) (tagsOf (now (s .entry)))))) × (now (out .exit) ≡ sets (now (out .entry)) at (led (canonicalVariants (tablesOf (now (aliases .entry)) [] []) (tagsOf (now (s .entry)))))) ⌝ }
 {
     if s.len() == 0 {
         return at;
     }
     let mut scratch = buffer();
-    let m = resolve_variants(s, aliases, &mut scratch);
+    let m = resolve_variants(s, aliases, hints, &mut scratch);
     write_sorted(&scratch[..m], 8, false, out, at)
 }

@@ -181,5 +181,5 @@ over-are p v l s r a b c e f g =
     let z = region-cut v a b c in
     rw (e, f, g, x, y, z)
 
-pub ready-is : (L : Bytes) (p q : Parts) → p ≡ q → Ready L q → Ready L p
-ready-is L p q e h = rw e h
+pub ready-is : (L hints : Bytes) (p q : Parts) → p ≡ q → Ready L hints q → Ready L hints p
+ready-is L hints p q e h = rw e h

@@ -28,7 +28,7 @@ use Rattle.standard.proofs.Closed.{fill-shaped, strip-shaped, core-printable}
 use Rattle.standard.proofs.Demand.{printable-of}
 use Rattle.standard.proofs.Table.{Passed, passed, good-tables, shaped-tables}
 use Rattle.standard.proofs.Whole.{same-canonical, narrow-likely}
-use Rattle.table.specs.Search.{Sorted}
+use Rattle.table.specs.Hints.{Indexed}
 use Rattle.canonical.specs.declared.form.Form.{Form}
 use Rattle.canonical.specs.declared.form.Canon.the-variants.{Formed, Empty, TooLong, BadByte, BadSize, Misplaced, Repeated, Unfinished, Overlong}
 use Rattle.canonical.specs.Form.{form as formed-as, refusal as refused-as, formOf, formed, canonicalOf, outcomeOf, outcome, FormFits}
@@ -98,7 +98,7 @@ canonicalised A x f buf e = go (read x) refl e
     go (bad n p) r k = form-not k
     go (good i) r k = by i r (canonical (tablesOf A [] []) i) refl k
 
-module _ (A L : Bytes) (pass : check true false A L [] ≡ none) (sorted : Sorted L) (x : Bytes) (f : Form) (buf : Bytes) (w : Canonicalised A x f buf) where
+module _ (A L : Bytes) (pass : check true false A L [] ≡ none) (hints : Bytes) (indexed : Indexed L hints) (x : Bytes) (f : Form) (buf : Bytes) (w : Canonicalised A x f buf) where
   abbrev T : Tables
   T = tablesOf A L []
 
@@ -135,18 +135,18 @@ module _ (A L : Bytes) (pass : check true false A L [] ≡ none) (sorted : Sorte
   made-by false = rw (w .reads, canonicalises) (maximised-made A L [] whole c printables)
   made-by true = rw (w .reads, canonicalises) (minimised-made A L [] whole c printables full)
 
-  pub ready : ReadyFor L (partsOf (c .core))
+  pub ready : ReadyFor L hints (partsOf (c .core))
   unfolding mapParts
   ready = record {
-    first = subst (Ready L) (known-parts (c .core)) (record { sorted = sorted; short = shaped-short (withoutUnknown (c .core)) (strip-shaped T (shaped-tables A L [] ok) (c .core) (printable .core)) });
+    first = subst (Ready L hints) (known-parts (c .core)) (record { indexed = indexed; short = shaped-short (withoutUnknown (c .core)) (strip-shaped T (shaped-tables A L [] ok) (c .core) (printable .core)) });
     again = λ q e. again q (ap (fillParts L) (known-parts (c .core)) ∙ e);
   }
     where
-      look : (o : Option Three) → maximalThree T (withoutUnknown (c .core)) ≡ o → (q : Parts) → mapParts o ≡ some q → Ready L q
+      look : (o : Option Three) → maximalThree T (withoutUnknown (c .core)) ≡ o → (q : Parts) → mapParts o ≡ some q → Ready L hints q
       look none e q k = absurd (Option·none-ne-some q k)
-      look (some t) e q k = let z : partsOf t ≡ q = some-one k in subst (Ready L) z (record { sorted = sorted; short = shaped-short t (shaped t e) })
+      look (some t) e q k = let z : partsOf t ≡ q = some-one k in subst (Ready L hints) z (record { indexed = indexed; short = shaped-short t (shaped t e) })
 
-      again : (q : Parts) → fillParts L (partsOf (withoutUnknown (c .core))) ≡ some q → Ready L q
+      again : (q : Parts) → fillParts L (partsOf (withoutUnknown (c .core))) ≡ some q → Ready L hints q
       again q e = look (maximalThree T (withoutUnknown (c .core))) refl q (sym (fill-parts A L [] whole (withoutUnknown (c .core))) ∙ e)
 
   pub cuts : Slices buf ((partsOf (c .core)) .language) ((partsOf (c .core)) .script) ((partsOf (c .core)) .region) (restOf c) (f .language) (f .script) (f .region) (f .len)
@@ -173,11 +173,11 @@ in-order f i e =
     let d = ap (λ (g : Form). g .len) e in
     (omega (arith, a, b), omega (arith, b, c), omega (arith, c, d))
 
-pub by-slices : (b : Bool) (L : Bytes) (p : Parts) (rest l s r d : Bytes) (G : Given) (out : Bytes) → l ≡ p .language → s ≡ p .script → r ≡ p .region → d ≡ rest
-    → (ReadyFor L (parts3 l s r) → G ≡ given (madeParts b L d (parts3 l s r)) out) → ReadyFor L p → G ≡ given (madeParts b L rest p) out
-by-slices b L p rest l s r d G out el es er ed h k =
+pub by-slices : (b : Bool) (L hints : Bytes) (p : Parts) (rest l s r d : Bytes) (G : Given) (out : Bytes) → l ≡ p .language → s ≡ p .script → r ≡ p .region → d ≡ rest
+    → (ReadyFor L hints (parts3 l s r) → G ≡ given (madeParts b L d (parts3 l s r)) out) → ReadyFor L hints p → G ≡ given (madeParts b L rest p) out
+by-slices b L hints p rest l s r d G out el es er ed h k =
     let e : parts3 l s r ≡ p = λ i. parts3 (el i) (es i) (er i) in
-    h (subst (ReadyFor L) (sym e) k) ∙ ap₂ (λ (x : Bytes) (q : Parts). given (madeParts b L x q) out) ed e
+    h (subst (ReadyFor L hints) (sym e) k) ∙ ap₂ (λ (x : Bytes) (q : Parts). given (madeParts b L x q) out) ed e
 
 -- A refusal of canonicalising stands.
 pub refusal-form : (c : Canon) (buf : Bytes) → OneOf (1 ∷ 2 ∷ 3 ∷ 4 ∷ 5 ∷ 6 ∷ 7 ∷ 8 ∷ []) (tagOf the-type c) → (n : ℕ) × (p : ℕ) × (outcomeOf c [] ≡ refused-as n p) × (outcomeOf c buf ≡ refused-as n p)
@@ -229,9 +229,9 @@ pub fits-by : {c : Canon} {f : Form} → c ≡ Formed f → FormFits c → f .le
 unfolding FormFits
 fits-by e h = subst FormFits e h
 
-pub made-answer : (A L : Bytes) (pass : check true false A L [] ≡ none) (sorted : Sorted L) (x : Bytes) (f : Form) (buf : Bytes) (w : Canonicalised A x f buf) (b : Bool) (o : Outcome) (out out′ : Bytes)
-    → ((p : Parts) → (rest : Bytes) → Slices buf (p .language) (p .script) (p .region) rest (f .language) (f .script) (f .region) (f .len) → ReadyFor L p → givenBy o out′ ≡ given (madeParts b L rest p) out)
+pub made-answer : (A L : Bytes) (pass : check true false A L [] ≡ none) (hints : Bytes) (indexed : Indexed L hints) (x : Bytes) (f : Form) (buf : Bytes) (w : Canonicalised A x f buf) (b : Bool) (o : Outcome) (out out′ : Bytes)
+    → ((p : Parts) → (rest : Bytes) → Slices buf (p .language) (p .script) (p .region) rest (f .language) (f .script) (f .region) (f .len) → ReadyFor L hints p → givenBy o out′ ≡ given (madeParts b L rest p) out)
     → givenAnswered (Made o) out′ ≡ given (make (tablesOf A L []) (operationOf b) x) out
 unfolding givenAnswered
-made-answer A L pass sorted x f buf w b o out out′ h =
-    h (partsOf (w .form .core)) (restOf (w .form)) (cuts A L pass sorted x f buf w) (ready A L pass sorted x f buf w) ∙ ap (λ (m : MadeBytes). given m out) (sym (made-by A L pass sorted x f buf w b))
+made-answer A L pass hints indexed x f buf w b o out out′ h =
+    h (partsOf (w .form .core)) (restOf (w .form)) (cuts A L pass hints indexed x f buf w) (ready A L pass hints indexed x f buf w) ∙ ap (λ (m : MadeBytes). given m out) (sym (made-by A L pass hints indexed x f buf w b))

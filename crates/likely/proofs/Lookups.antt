@@ -15,19 +15,14 @@ use Rattle.standard.specs.Identifier.{und}
 use Rattle.standard.specs.Delivery.{Bytes}
 use Rattle.standard.specs.Table.{Found as Located, after, lookup, rows, locatedFrom, located}
 use Rattle.standard.proofs.Bytes.{clash, true→T, and-true, bool-cases}
-use Rattle.table.specs.Lines.{valueOf, valueIf}
-use Rattle.table.proofs.Lines.{lookup-located}
+use Rattle.table.specs.Lines.{valueOf, valueOr, isFound}
+use Rattle.table.proofs.Lines.{value-located, found-located}
 use Rattle.subtag.proofs.Stores.{sets-append}
 use Rattle.subtag.specs.Subtags.{orderOf}
 use Rattle.subtag.specs.declared.Order.{Order}
 use Rattle.likely.specs.Kept.{keptParts}
 use Rattle.likely.specs.declared.three.Kept.the-variants.{Neither, Region, Script, Both}
-use Rattle.likely.specs.Parts.{Parts, Ready, dashFrom, dash, cutAt, cutParts, overParts, overValue, fillParts, filledBy, fitsValue, fitsParts, minimalParts, knownPart, languageOf, completeParts, parts3, orValue, shorterValue, rowValue, valueOr, isFound}
-
--- a comparison tells whether two are the same
-pub is-same-of : (a b : Bytes) (o : Order) {p : Order} → orderOf o ≡ order a b → o ≡ p → isEq (orderOf p) ≡ same a b
-unfolding same
-is-same-of a b o e q = ap (λ (x : Order). isEq (orderOf x)) (sym q) ∙ ap isEq e
+use Rattle.likely.specs.Parts.{Parts, Ready, dashFrom, dash, cutAt, cutParts, overParts, overValue, fillParts, filledBy, fitsValue, fitsParts, minimalParts, knownPart, languageOf, completeParts, parts3, orValue, shorterValue, rowValue}
 
 -- the walk to a '-'
 pub dash-more : (v : Bytes) (i : ℕ) → i < length v → (getD v i 0 ≡ 45 → ⊥) → dash v i ≡ dash v (i + 1)
@@ -84,33 +79,6 @@ unfolding completeParts present
 by-region l [] r e t n = absurd (n refl)
 by-region l (c ∷ cs) [] e t n = rw (← e, t)
 by-region l (c ∷ cs) (d ∷ ds) e t n = rw (← e, t) (rw (ne-eqb (length (d ∷ ds)) 0 (λ z. omega arith)))
-
--- A lookup's answer is the standard's.
-none-empty : (at : ℕ) (ls : List Tag) (k : Bytes) → (locatedFrom at ls k) .found ≡ false → (locatedFrom at ls k) .len ≡ 0
-unfolding locatedFrom
-none-empty at [] k e = refl
-none-empty at (l ∷ ls) k e = go (after (k ++ (9 ∷ [])) l) refl (none-empty (at + suc (length l)) ls k)
-  where
-    go : (o : Option Bytes) → after (k ++ (9 ∷ [])) l ≡ o → ((locatedFrom (at + suc (length l)) ls k) .found ≡ false → (locatedFrom (at + suc (length l)) ls k) .len ≡ 0)
-        → (locatedFrom at (l ∷ ls) k) .len ≡ 0
-    go none f next = rw (f, locatedFrom) (next (rw (f, locatedFrom) at e))
-    go (some v) f next = clash {b = true} refl (rw (f, locatedFrom) at e)
-
-pub value-located : (t k : Bytes) → valueOf t (located t k) ≡ valueOr (lookup (rows t) k)
-unfolding valueOr located
-value-located t k = go ((located t k) .found) refl ∙ ap valueOr (sym (lookup-located t k))
-  where
-    go : (b : Bool) → (located t k) .found ≡ b → valueOf t (located t k) ≡ valueOr (valueIf t (located t k))
-    go true e = rw e
-    go false e = rw e (ap (λ (n : ℕ). take n (drop ((located t k) .start) t)) (none-empty 0 (rows t) k e))
-
-pub found-located : (t k : Bytes) → (located t k) .found ≡ isFound (lookup (rows t) k)
-unfolding isFound
-found-located t k = go ((located t k) .found) refl ∙ ap isFound (sym (lookup-located t k))
-  where
-    go : (b : Bool) → (located t k) .found ≡ b → (located t k) .found ≡ isFound (valueIf t (located t k))
-    go true e = rw e
-    go false e = rw e
 
 -- three parts put one behind the other make the key
 pub put-three : (z k₁ k₂ k₃ l s r : Bytes) (a b n : ℕ) → k₁ ≡ sets z 0 l → a ≡ 0 + length l → k₂ ≡ sets k₁ a s → b ≡ a + length s → k₃ ≡ sets k₂ b r → n ≡ b + length r
@@ -230,23 +198,23 @@ module _ (L l s r : Bytes) where
         rw (or-next _ (orValue (look (l ++ s)) (orValue (look (l ++ r)) (look l))) v f by-all t, m, k, or-twice (look l)) (alone r w g e c d)
 
 -- the parts of a shorter form have room too
-pub ready-script : {L : Bytes} (l s r z : Bytes) → z ≡ [] → Ready L (parts3 l s r) → Ready L (parts3 l s z)
-ready-script l s r z e q = record { sorted = q .sorted; short = rw e (omega (arith, q .short)) }
+pub ready-script : {L hints : Bytes} (l s r z : Bytes) → z ≡ [] → Ready L hints (parts3 l s r) → Ready L hints (parts3 l s z)
+ready-script l s r z e q = record { indexed = q .indexed; short = rw e (omega (arith, q .short)) }
 
-pub ready-region : {L : Bytes} (l s r z : Bytes) → z ≡ [] → Ready L (parts3 l s r) → Ready L (parts3 l z r)
-ready-region l s r z e q = record { sorted = q .sorted; short = rw e (omega (arith, q .short)) }
+pub ready-region : {L hints : Bytes} (l s r z : Bytes) → z ≡ [] → Ready L hints (parts3 l s r) → Ready L hints (parts3 l z r)
+ready-region l s r z e q = record { indexed = q .indexed; short = rw e (omega (arith, q .short)) }
 
-pub ready-language : {L : Bytes} (l s r z : Bytes) → length z ≡ 0 → Ready L (parts3 l s r) → Ready L (parts3 l z z)
-ready-language l s r z e q = record { sorted = q .sorted; short = omega (arith, q .short) }
+pub ready-language : {L hints : Bytes} (l s r z : Bytes) → length z ≡ 0 → Ready L hints (parts3 l s r) → Ready L hints (parts3 l z z)
+ready-language l s r z e q = record { indexed = q .indexed; short = omega (arith, q .short) }
 
 -- parts that have no room in a key
 pub leb-le : (m n : ℕ) → leb m n ≡ true → m ≤ n
 leb-le m n e = leb→le m n (true→T (leb m n) e)
 
-pub no-room : (L : Bytes) (p : Parts) {X Y : Type 0} {b : Bool} → b ≡ leb (length (p .language) + length (p .script) + length (p .region)) 32 → b ≡ false → (Ready L p → X) × (Ready L p → Y)
-no-room L p {X} {Y} e f = ((λ q. gone q), (λ q. gone q))
+pub no-room : (L hints : Bytes) (p : Parts) {X Y : Type 0} {b : Bool} → b ≡ leb (length (p .language) + length (p .script) + length (p .region)) 32 → b ≡ false → (Ready L hints p → X) × (Ready L hints p → Y)
+no-room L hints p {X} {Y} e f = ((λ q. gone q), (λ q. gone q))
   where
-    gone : {Z : Type 0} → Ready L p → Z
+    gone : {Z : Type 0} → Ready L hints p → Z
     gone q = clash (le-leb _ _ (q .short)) (sym e ∙ f)
 
 pub long-language : (a b c : ℕ) → 32 < a → false ≡ leb (a + b + c) 32

@@ -48,6 +48,6 @@ unfoldable pub madeParts : Bool → Bytes → Bytes → Parts → Made
 madeParts b L rest p = madeFilled b L rest (fillParts L (knownParts p))
 
 -- the parts looked up have room in a key
-pub record ReadyFor (L : Bytes) (p : Parts) : Type 0 where
-  pub first : Ready L (knownParts p)
-  pub again : (q : Parts) → fillParts L (knownParts p) ≡ some q → Ready L q
+pub record ReadyFor (L hints : Bytes) (p : Parts) : Type 0 where
+  pub first : Ready L hints (knownParts p)
+  pub again : (q : Parts) → fillParts L (knownParts p) ≡ some q → Ready L hints q

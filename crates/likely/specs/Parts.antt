@@ -10,7 +10,7 @@ use Rattle.standard.specs.Tag.{Tag, same, present, pick}
 use Rattle.standard.specs.Identifier.{Three, three, und}
 use Rattle.standard.specs.Delivery.{Bytes}
 use Rattle.standard.specs.Table.{lookup, rows}
-use Rattle.table.specs.Search.{Sorted}
+use Rattle.table.specs.Hints.{Indexed}
 
 -- an optional subtag with its separator
 unfoldable pub ledPart : Tag → Bytes
@@ -47,18 +47,9 @@ unfoldable pub orValue : Option Bytes → Option Bytes → Option Bytes
 orValue none o = o
 orValue (some v) o = some v
 
--- a lookup's answer: its value, or nothing, and whether there is one
-unfoldable pub valueOr : Option Bytes → Bytes
-valueOr none = []
-valueOr (some v) = v
-
-unfoldable pub isFound : Option Bytes → Bool
-isFound none = false
-isFound (some v) = true
-
--- A table whose rows ascend, and parts that have room in a key: then a search finds what the standard's lookup finds.
-pub record Ready (L : Bytes) (p : Parts) : Type 0 where
-  pub sorted : Sorted L
+-- A table whose rows ascend, with its hints, and parts that have room in a key: then a search finds what the standard's lookup finds.
+pub record Ready (L hints : Bytes) (p : Parts) : Type 0 where
+  pub indexed : Indexed L hints
   pub short : length (p .language) + length (p .script) + length (p .region) ≤ 32
 
 -- 01, Maximising: the value of the first row: language-script-region; language-script, language-region, language

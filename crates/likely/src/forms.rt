@@ -84,9 +84,10 @@ fn finish(
     region: &[u8],
     rest: &[u8],
     likely: &[u8],
+    hints: &[u16],
     out: &mut [u8],
 ) -> Outcome
-    ensures { λ r. ⌜ (Ready (now (likely .entry)) (parts3 (now (language .entry)) (now (script .entry)) (now (region .entry)))
+    ensures { λ r. ⌜ (Ready (now (likely .entry)) (now (hints .entry)) (parts3 (now (language .entry)) (now (script .entry)) (now (region .entry)))
         → givenBy r (now (out .exit)) ≡ given (madeOf shorten (now (likely .entry)) (now (rest .entry)) (parts3 (now (language .entry)) (now (script .entry)) (now (region .entry)))) (now (out .entry))) ⌝ }
 {
     if !shorten {
@@ -96,7 +97,7 @@ fn finish(
         return Outcome::Long;
     }
     let none = &language[..0];
-    let kept = minimal(likely, language, script, region);
+    let kept = minimal(likely, hints, language, script, region);
     match kept {
         Kept::Neither => deliver(language, none, none, rest, out),
         Kept::Region => deliver(language, none, region, rest, out),
@@ -113,15 +114,16 @@ pub fn form_by_parts<'a>(
     region: &'a [u8],
     rest: &[u8],
     likely: &'a [u8],
+    hints: &[u16],
     out: &mut [u8],
 ) -> Outcome
-    ensures { λ r. ⌜ (ReadyFor (now (likely .entry)) (parts3 (now (language .entry)) (now (script .entry)) (now (region .entry)))
+    ensures { λ r. ⌜ (ReadyFor (now (likely .entry)) (now (hints .entry)) (parts3 (now (language .entry)) (now (script .entry)) (now (region .entry)))
         → givenBy r (now (out .exit)) ≡ given (madeParts shorten (now (likely .entry)) (now (rest .entry)) (parts3 (now (language .entry)) (now (script .entry)) (now (region .entry)))) (now (out .entry))) ⌝ }
 {
     let s = known(script, b"-Zzzz");
     let r = known(region, b"-ZZ");
     let mut found = false;
-    let v = row_for(likely, language, s, r, &mut found);
+    let v = row_for(likely, hints, language, s, r, &mut found);
     if !found {
         return Outcome::NoRow;
     }
@@ -135,6 +137,7 @@ pub fn form_by_parts<'a>(
         first_of(r, &v[b..]),
         rest,
         likely,
+        hints,
         out,
     )
 }

@@ -1,28 +1,16 @@
 // Language, script and region as parts of lent bytes: script and region each with its separator in front, empty where
 // absent. A key of the likely table is its parts, one after the other.
-use subtag::Order;
 ghost use mathlib.Core.Path.{_≡_};
 ghost use Rattle.standard.specs.Tag.{same, pick};
 ghost use Rattle.standard.specs.Identifier.{und};
 ghost use mathlib.Core.Bool.{cond, not};
 ghost use Rattle.likely.specs.Parts.{knownPart, dash, completeParts, languageOf};
 
-// Are the bytes the same?
-pub fn is_same(a: &[u8], b: &[u8]) -> bool
-    ensures { λ r. ⌜ r ≡ same (now (a .entry)) (now (b .entry)) ⌝ }
-{
-    match subtag::compare(a, b) {
-        Order::Less => false,
-        Order::Equal => true,
-        Order::Greater => false,
-    }
-}
-
 // The part, or none where it is this unknown one.
 pub fn known<'a>(part: &'a [u8], unknown: &[u8]) -> &'a [u8]
     ensures { λ r. ⌜ now r ≡ knownPart (now (unknown .entry)) (now (part .entry)) ⌝ }
 {
-    if is_same(part, unknown) {
+    if subtag::same(part, unknown) {
         return &part[..0];
     }
     part
@@ -43,16 +31,16 @@ pub fn first_is(first: &[u8], other: &[u8], part: &[u8]) -> bool
     ensures { λ r. ⌜ r ≡ same (pick (now (first .entry)) (now (other .entry))) (now (part .entry)) ⌝ }
 {
     if first.len() == 0 {
-        return is_same(other, part);
+        return subtag::same(other, part);
     }
-    is_same(first, part)
+    subtag::same(first, part)
 }
 
 // The language, or the other where it is `und`.
 pub fn language_of<'a>(language: &'a [u8], other: &'a [u8]) -> &'a [u8]
     ensures { λ r. ⌜ now r ≡ languageOf (now (language .entry)) (now (other .entry)) ⌝ }
 {
-    if is_same(language, b"und") {
+    if subtag::same(language, b"und") {
         return other;
     }
     language
@@ -62,7 +50,7 @@ pub fn language_of<'a>(language: &'a [u8], other: &'a [u8]) -> &'a [u8]
 pub fn is_complete(language: &[u8], script: &[u8], region: &[u8]) -> bool
     ensures { λ r. ⌜ r ≡ completeParts (record { language = now (language .entry); script = now (script .entry); region = now (region .entry) }) ⌝ }
 {
-    if is_same(language, b"und") {
+    if subtag::same(language, b"und") {
         return false;
     }
     if script.len() == 0 {

@@ -6,8 +6,9 @@ ghost use Prim.Native.Nat.{_+_, _≤_};
 ghost use lib.ListN.{length};
 ghost use Rattle.standard.specs.Table.{lookup, rows};
 ghost use lib.Dec.{leb};
-ghost use Rattle.table.specs.Search.{Sorted};
-ghost use Rattle.likely.specs.Parts.{Ready, parts3, shorterValue, rowValue, valueOr, isFound};
+ghost use Rattle.table.specs.Lines.{valueOr, isFound};
+ghost use Rattle.table.specs.Hints.{Indexed};
+ghost use Rattle.likely.specs.Parts.{Ready, parts3, shorterValue, rowValue};
 
 // Have the parts room in a key? All keys of a table that passed have.
 fn has_room(language: &[u8], script: &[u8], region: &[u8]) -> bool
@@ -28,35 +29,37 @@ fn has_room(language: &[u8], script: &[u8], region: &[u8]) -> bool
 // The value of the row whose key is these parts, one after the other, as a part of the lent table.
 fn find_key<'a>(
     likely: &'a [u8],
+    hints: &[u16],
     language: &[u8],
     script: &[u8],
     region: &[u8],
     found: &mut bool,
 ) -> &'a [u8]
     requires { ⌜ length (now language) + length (now script) + length (now region) ≤ 32 ⌝ }
-    ensures { λ r. ⌜ (Sorted (now (likely .entry)) → now r ≡ valueOr (lookup (rows (now (likely .entry))) (now (language .entry) ++ (now (script .entry) ++ now (region .entry))))) ⌝ }
-    ensures { λ _. ⌜ (Sorted (now (likely .entry)) → now (found .exit) ≡ isFound (lookup (rows (now (likely .entry))) (now (language .entry) ++ (now (script .entry) ++ now (region .entry))))) ⌝ }
+    ensures { λ r. ⌜ (Indexed (now (likely .entry)) (now (hints .entry)) → now r ≡ valueOr (lookup (rows (now (likely .entry))) (now (language .entry) ++ (now (script .entry) ++ now (region .entry))))) ⌝ }
+    ensures { λ _. ⌜ (Indexed (now (likely .entry)) (now (hints .entry)) → now (found .exit) ≡ isFound (lookup (rows (now (likely .entry))) (now (language .entry) ++ (now (script .entry) ++ now (region .entry))))) ⌝ }
 {
     let mut key = [0u8; 32];
     let a = put(language, &mut key, 0);
     let b = put(script, &mut key, a);
     let c = put(region, &mut key, b);
-    table::lookup_sorted(likely, &key[..c], found)
+    table::hints::lookup_hinted(likely, hints, &key[..c], found)
 }
 
 // The same for parts of any length.
 pub fn find<'a>(
     likely: &'a [u8],
+    hints: &[u16],
     language: &[u8],
     script: &[u8],
     region: &[u8],
     found: &mut bool,
 ) -> &'a [u8]
-    ensures { λ r. ⌜ (Ready (now (likely .entry)) (parts3 (now (language .entry)) (now (script .entry)) (now (region .entry))) → now r ≡ valueOr (lookup (rows (now (likely .entry))) (now (language .entry) ++ (now (script .entry) ++ now (region .entry))))) ⌝ }
-    ensures { λ _. ⌜ (Ready (now (likely .entry)) (parts3 (now (language .entry)) (now (script .entry)) (now (region .entry))) → now (found .exit) ≡ isFound (lookup (rows (now (likely .entry))) (now (language .entry) ++ (now (script .entry) ++ now (region .entry))))) ⌝ }
+    ensures { λ r. ⌜ (Ready (now (likely .entry)) (now (hints .entry)) (parts3 (now (language .entry)) (now (script .entry)) (now (region .entry))) → now r ≡ valueOr (lookup (rows (now (likely .entry))) (now (language .entry) ++ (now (script .entry) ++ now (region .entry))))) ⌝ }
+    ensures { λ _. ⌜ (Ready (now (likely .entry)) (now (hints .entry)) (parts3 (now (language .entry)) (now (script .entry)) (now (region .entry))) → now (found .exit) ≡ isFound (lookup (rows (now (likely .entry))) (now (language .entry) ++ (now (script .entry) ++ now (region .entry))))) ⌝ }
 {
     if has_room(language, script, region) {
-        return find_key(likely, language, script, region, found);
+        return find_key(likely, hints, language, script, region, found);
     }
     *found = false;
     &likely[..0]
@@ -65,50 +68,52 @@ pub fn find<'a>(
 // Where language-script-region has no row: language-script, language-region, language.
 fn find_shorter<'a>(
     likely: &'a [u8],
+    hints: &[u16],
     language: &[u8],
     script: &[u8],
     region: &[u8],
     found: &mut bool,
 ) -> &'a [u8]
-    ensures { λ r. ⌜ (Ready (now (likely .entry)) (parts3 (now (language .entry)) (now (script .entry)) (now (region .entry))) → now r ≡ valueOr (shorterValue (now (likely .entry)) (parts3 (now (language .entry)) (now (script .entry)) (now (region .entry))))) ⌝ }
-    ensures { λ _. ⌜ (Ready (now (likely .entry)) (parts3 (now (language .entry)) (now (script .entry)) (now (region .entry))) → now (found .exit) ≡ isFound (shorterValue (now (likely .entry)) (parts3 (now (language .entry)) (now (script .entry)) (now (region .entry))))) ⌝ }
+    ensures { λ r. ⌜ (Ready (now (likely .entry)) (now (hints .entry)) (parts3 (now (language .entry)) (now (script .entry)) (now (region .entry))) → now r ≡ valueOr (shorterValue (now (likely .entry)) (parts3 (now (language .entry)) (now (script .entry)) (now (region .entry))))) ⌝ }
+    ensures { λ _. ⌜ (Ready (now (likely .entry)) (now (hints .entry)) (parts3 (now (language .entry)) (now (script .entry)) (now (region .entry))) → now (found .exit) ≡ isFound (shorterValue (now (likely .entry)) (parts3 (now (language .entry)) (now (script .entry)) (now (region .entry))))) ⌝ }
 {
     let none = &language[..0];
-    let v = find(likely, language, script, none, found);
+    let v = find(likely, hints, language, script, none, found);
     let first = *found;
     if first {
         return v;
     }
-    let w = find(likely, language, none, region, found);
+    let w = find(likely, hints, language, none, region, found);
     let second = *found;
     if second {
         return w;
     }
-    find(likely, language, none, none, found)
+    find(likely, hints, language, none, none, found)
 }
 
 // The value of the first row for the parts, as a part of the lent table. Where script or region is missing, the forms
 // that name it are skipped: they would be looked up again.
 pub fn find_row<'a>(
     likely: &'a [u8],
+    hints: &[u16],
     language: &[u8],
     script: &[u8],
     region: &[u8],
     found: &mut bool,
 ) -> &'a [u8]
-    ensures { λ r. ⌜ (Ready (now (likely .entry)) (parts3 (now (language .entry)) (now (script .entry)) (now (region .entry))) → now r ≡ valueOr (rowValue (now (likely .entry)) (parts3 (now (language .entry)) (now (script .entry)) (now (region .entry))))) ⌝ }
-    ensures { λ _. ⌜ (Ready (now (likely .entry)) (parts3 (now (language .entry)) (now (script .entry)) (now (region .entry))) → now (found .exit) ≡ isFound (rowValue (now (likely .entry)) (parts3 (now (language .entry)) (now (script .entry)) (now (region .entry))))) ⌝ }
+    ensures { λ r. ⌜ (Ready (now (likely .entry)) (now (hints .entry)) (parts3 (now (language .entry)) (now (script .entry)) (now (region .entry))) → now r ≡ valueOr (rowValue (now (likely .entry)) (parts3 (now (language .entry)) (now (script .entry)) (now (region .entry))))) ⌝ }
+    ensures { λ _. ⌜ (Ready (now (likely .entry)) (now (hints .entry)) (parts3 (now (language .entry)) (now (script .entry)) (now (region .entry))) → now (found .exit) ≡ isFound (rowValue (now (likely .entry)) (parts3 (now (language .entry)) (now (script .entry)) (now (region .entry))))) ⌝ }
 {
-    let v = find(likely, language, script, region, found);
+    let v = find(likely, hints, language, script, region, found);
     let there = *found;
     if there {
         return v;
     }
     if script.len() == 0 {
-        return find(likely, language, script, script, found);
+        return find(likely, hints, language, script, script, found);
     }
     if region.len() == 0 {
-        return find(likely, language, region, region, found);
+        return find(likely, hints, language, region, region, found);
     }
-    find_shorter(likely, language, script, region, found)
+    find_shorter(likely, hints, language, script, region, found)
 }

@@ -12,6 +12,7 @@ ghost use lib.ListN.{length};
 ghost use Rattle.standard.specs.Delivery.{given};
 ghost use Rattle.standard.specs.Table.{tablesOf};
 ghost use Rattle.standard.specs.Make.{make};
+ghost use Rattle.table.specs.Hints.{Hinted};
 ghost use Rattle.likely.specs.Parts.{Parts};
 ghost use Rattle.likely.specs.Forms.{givenBy, madeParts, ReadyFor};
 ghost use Rattle.likely.specs.Slices.{Slices};
@@ -32,9 +33,16 @@ fn blank() -> [u8; 512]
 }
 
 // The maximised or minimised form of the canonical form in buf.
-fn from_form<'a>(shorten: bool, buf: &'a [u8], f: Form, likely: &'a [u8], out: &mut [u8]) -> Outcome
+fn from_form<'a>(
+    shorten: bool,
+    buf: &'a [u8],
+    f: Form,
+    likely: &'a [u8],
+    hints: &[u16],
+    out: &mut [u8],
+) -> Outcome
     requires { ⌜ (f .language ≤ f .script) × (f .script ≤ f .region) × (f .region ≤ f .len) × (f .len ≤ length (now buf)) ⌝ }
-    ensures { λ r. ⌜ ((p : Parts) → (rest : List ℕ) → Slices (now (buf .entry)) (p .language) (p .script) (p .region) rest (f .language) (f .script) (f .region) (f .len) → ReadyFor (now (likely .entry)) p
+    ensures { λ r. ⌜ ((p : Parts) → (rest : List ℕ) → Slices (now (buf .entry)) (p .language) (p .script) (p .region) rest (f .language) (f .script) (f .region) (f .len) → ReadyFor (now (likely .entry)) (now (hints .entry)) p
         → givenBy r (now (out .exit)) ≡ given (madeParts shorten (now (likely .entry)) rest p) (now (out .entry))) ⌝ }
 {
     let l = f.language;
@@ -48,11 +56,34 @@ fn from_form<'a>(shorten: bool, buf: &'a [u8], f: Form, likely: &'a [u8], out: &
         &buf[s..r],
         &buf[r..n],
         likely,
+        hints,
         out,
     )
 }
 
-// The maximised form of an identifier, or with shorten the minimised one. Both first canonicalise.
+// The maximised form of an identifier, or with shorten the minimised one. Both first canonicalise. Each table's hints stand
+// behind it.
+pub fn form_hinted(
+    shorten: bool,
+    id: &[u8],
+    aliases: &[u8],
+    alias_hints: &[u16],
+    likely: &[u8],
+    likely_hints: &[u16],
+    out: &mut [u8],
+) -> Answered
+    requires { ⌜ TestedBoth (now aliases) (now likely) × Hinted (now aliases) (now «alias_hints») × Hinted (now likely) (now «likely_hints») ⌝ }
+    ensures { λ r. ⌜ givenAnswered r (now (out .exit)) ≡ given (make (tablesOf (now (aliases .entry)) (now (likely .entry)) []) (operationOf shorten) (now (id .entry))) (now (out .entry)) ⌝ }
+{
+    let mut buf = blank();
+    let c = canonical_form(id, aliases, alias_hints, &mut buf);
+    let Canon::Formed(f) = c else {
+        return Answered::Refused(c);
+    };
+    Answered::Made(from_form(shorten, &buf, f, likely, likely_hints, out))
+}
+
+// The same without hints.
 pub fn form_tested(
     shorten: bool,
     id: &[u8],
@@ -63,10 +94,7 @@ pub fn form_tested(
     requires { ⌜ TestedBoth (now aliases) (now likely) ⌝ }
     ensures { λ r. ⌜ givenAnswered r (now (out .exit)) ≡ given (make (tablesOf (now (aliases .entry)) (now (likely .entry)) []) (operationOf shorten) (now (id .entry))) (now (out .entry)) ⌝ }
 {
-    let mut buf = blank();
-    let c = canonical_form(id, aliases, &mut buf);
-    let Canon::Formed(f) = c else {
-        return Answered::Refused(c);
-    };
-    Answered::Made(from_form(shorten, &buf, f, likely, out))
+    let none = [0u16; 1];
+    let empty = &none[..0];
+    form_hinted(shorten, id, aliases, empty, likely, empty, out)
 }

@@ -35,12 +35,13 @@ pub fn cuts_of(v: &[u8]) -> Cuts
 // The value of the row that completes the parts, empty where nothing is missing; and whether there is one.
 pub fn row_for<'a>(
     likely: &'a [u8],
+    hints: &[u16],
     language: &[u8],
     script: &[u8],
     region: &[u8],
     found: &mut bool,
 ) -> &'a [u8]
-    ensures { λ r. ⌜ (Ready (now (likely .entry)) (parts3 (now (language .entry)) (now (script .entry)) (now (region .entry)))
+    ensures { λ r. ⌜ (Ready (now (likely .entry)) (now (hints .entry)) (parts3 (now (language .entry)) (now (script .entry)) (now (region .entry)))
         → filledBy (parts3 (now (language .entry)) (now (script .entry)) (now (region .entry))) (now r) (now (found .exit))
         ≡ fillParts (now (likely .entry)) (parts3 (now (language .entry)) (now (script .entry)) (now (region .entry)))) ⌝ }
 {
@@ -48,23 +49,24 @@ pub fn row_for<'a>(
         *found = true;
         return &likely[..0];
     }
-    find_row(likely, language, script, region, found)
+    find_row(likely, hints, language, script, region, found)
 }
 
 // Do the parts of a trial maximise to the language, script and region of the maximised form?
 pub fn fits(
     likely: &[u8],
+    hints: &[u16],
     language: &[u8],
     script: &[u8],
     region: &[u8],
     whole_script: &[u8],
     whole_region: &[u8],
 ) -> bool
-    ensures { λ r. ⌜ (Ready (now (likely .entry)) (parts3 (now (language .entry)) (now (script .entry)) (now (region .entry)))
+    ensures { λ r. ⌜ (Ready (now (likely .entry)) (now (hints .entry)) (parts3 (now (language .entry)) (now (script .entry)) (now (region .entry)))
         → r ≡ fitsParts (now (likely .entry)) (parts3 (now (language .entry)) (now («whole_script» .entry)) (now («whole_region» .entry))) (parts3 (now (language .entry)) (now (script .entry)) (now (region .entry)))) ⌝ }
 {
     let mut found = false;
-    let v = find_row(likely, language, script, region, &mut found);
+    let v = find_row(likely, hints, language, script, region, &mut found);
     if !found {
         return false;
     }
@@ -86,19 +88,19 @@ pub enum Kept {
 }
 
 // The first trial that maximises to the three.
-pub fn minimal(likely: &[u8], language: &[u8], script: &[u8], region: &[u8]) -> Kept
-    ensures { λ r. ⌜ (Ready (now (likely .entry)) (parts3 (now (language .entry)) (now (script .entry)) (now (region .entry)))
+pub fn minimal(likely: &[u8], hints: &[u16], language: &[u8], script: &[u8], region: &[u8]) -> Kept
+    ensures { λ r. ⌜ (Ready (now (likely .entry)) (now (hints .entry)) (parts3 (now (language .entry)) (now (script .entry)) (now (region .entry)))
         → keptParts r (parts3 (now (language .entry)) (now (script .entry)) (now (region .entry)))
         ≡ minimalParts (now (likely .entry)) (parts3 (now (language .entry)) (now (script .entry)) (now (region .entry)))) ⌝ }
 {
     let none = &language[..0];
-    if fits(likely, language, none, none, script, region) {
+    if fits(likely, hints, language, none, none, script, region) {
         return Kept::Neither;
     }
-    if fits(likely, language, none, region, script, region) {
+    if fits(likely, hints, language, none, region, script, region) {
         return Kept::Region;
     }
-    if fits(likely, language, script, none, script, region) {
+    if fits(likely, hints, language, script, none, script, region) {
         return Kept::Script;
     }
     Kept::Both

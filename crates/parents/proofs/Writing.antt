@@ -16,10 +16,8 @@ use Rattle.standard.specs.Delivery.{Bytes}
 use Rattle.standard.specs.Make.{listing}
 use Rattle.standard.specs.Table.{lookup, rows, located}
 use Rattle.table.specs.declared.Found.{Found}
-use Rattle.table.specs.Lines.{foundIs}
-use Rattle.table.proofs.Lines.{cut-value, cut-found}
-use Rattle.likely.specs.Parts.{valueOr, isFound}
-use Rattle.likely.proofs.Lookups.{value-located, found-located}
+use Rattle.table.specs.Lines.{foundIs, valueOr, isFound}
+use Rattle.table.proofs.Lines.{cut-value, cut-found, value-located, found-located}
 use Rattle.subtag.proofs.Stores.{sets-append}
 use Rattle.parents.specs.declared.lines.Listed.{Listed}
 use Rattle.parents.specs.Texts.{lastBelow, lastDash, withoutLast, rowText, parentBy, parentText, chainText}

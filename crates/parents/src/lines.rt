@@ -1,7 +1,6 @@
 // The lines of a chain. The last call of the walk knows how long the listing is; it is written on the way back, and only
 // where all of it fits.
 use canonical::alias::put;
-use likely::parts::is_same;
 ghost use mathlib.Core.Path.{_≡_};
 ghost use mathlib.Core.Bool.{true};
 ghost use mathlib.Core.List.{[], _∷_, _++_};
@@ -13,7 +12,7 @@ ghost use Rattle.standard.specs.Tag.{same};
 ghost use Rattle.standard.specs.Identifier.{und};
 ghost use Rattle.table.specs.Search.{Sorted};
 ghost use Rattle.parents.specs.Texts.{lastDash, rowText, parentText, chainText};
-ghost use Rattle.likely.specs.Parts.{valueOr, isFound};
+ghost use Rattle.table.specs.Lines.{valueOr, isFound};
 ghost use Rattle.parents.specs.Listed.{Bounded, Lists, listedOf, outAfter, added, outAdded};
 
 // Whether a listing fits, where it ends, and its steps.
@@ -151,7 +150,7 @@ pub fn list<'a>(
     if allowed == 0 {
         return last_line(id, out, at);
     }
-    if is_same(id, root) {
+    if subtag::same(id, root) {
         return last_line(id, out, at);
     }
     let next = at + id.len() + 1;

@@ -55,7 +55,8 @@ pub fn chain_tested(id: &[u8], aliases: &[u8], parents: &[u8], out: &mut [u8]) -
     ensures { λ r. ⌜ givenAnswered r (now (out .exit)) ≡ given (chainFrom (tablesOf (now (aliases .entry)) [] (now (parents .entry))) (read (now (id .entry)))) (now (out .entry)) ⌝ }
 {
     let mut buf = blank();
-    let c = canonical_form(id, aliases, &mut buf);
+    let none = [0u16; 1];
+    let c = canonical_form(id, aliases, &none[..0], &mut buf);
     let Canon::Formed(f) = c else {
         return Answered::Refused(c);
     };

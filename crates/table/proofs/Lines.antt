@@ -3,7 +3,7 @@
 use mathlib.Core.Path.{_≡_, refl, sym, ap, _∙_}
 use mathlib.Core.Bool.{Bool, true, false, cond}
 use mathlib.Core.List.{List, [], _∷_, _++_}
-use mathlib.Core.Option.{none, some}
+use mathlib.Core.Option.{Option, none, some}
 use mathlib.Core.Logic.{_⊎_, ⊎-elim}
 use Rattle.subtag.proofs.Walk.{le-or-lt}
 use Prim.Native.Nat.{ℕ, zero, suc, _+_, _-_, _≤_, _<_, zero-le, suc-le-suc}
@@ -15,9 +15,10 @@ use lib.ListN.{length, take, drop, getD, length-append, length-take, length-drop
 use lib.Seq.{drop-cons, drop-drop, drop-length, take-nil}
 use borrow.Author.Tests.{eq-eqb, ne-eqb}
 use Rattle.standard.specs.Tag.{Tag, onto}
+use Rattle.standard.proofs.Bytes.{clash}
 use Rattle.standard.specs.Table.{Found as Located, pieces, after, rows, lookup, locatedFrom, located}
 use Rattle.table.specs.declared.Found.{Found}
-use Rattle.table.specs.Lines.{endOf, lines, starts, foundIs, noRow, rowAt, valueOf, valueIf}
+use Rattle.table.specs.Lines.{endOf, lines, starts, foundIs, noRow, rowAt, valueOf, valueIf, valueOr, isFound}
 use Rattle.table.specs.Search.{rowFrom}
 
 pub cond-same : {A : Type 0} (b : Bool) (a : A) → cond b a a ≡ a
@@ -311,3 +312,30 @@ module _ (t key : List ℕ) where
   unfolding rows
   lookup-located =
       lookup-trimmed (pieces 10 t) key ∙ ap (λ (ls : List Tag). lookup ls key) (sym (lines-trimmed t)) ∙ value-from (length t) 0 (omega arith) ∙ ap (valueIf t) (sym (row-start t key))
+
+-- A lookup's answer is the standard's.
+none-empty : (at : ℕ) (ls : List Tag) (k : List ℕ) → (locatedFrom at ls k) .found ≡ false → (locatedFrom at ls k) .len ≡ 0
+unfolding locatedFrom
+none-empty at [] k e = refl
+none-empty at (l ∷ ls) k e = go (after (k ++ (9 ∷ [])) l) refl (none-empty (at + suc (length l)) ls k)
+  where
+    go : (o : Option (List ℕ)) → after (k ++ (9 ∷ [])) l ≡ o → ((locatedFrom (at + suc (length l)) ls k) .found ≡ false → (locatedFrom (at + suc (length l)) ls k) .len ≡ 0)
+        → (locatedFrom at (l ∷ ls) k) .len ≡ 0
+    go none f next = rw (f, locatedFrom) (next (rw (f, locatedFrom) at e))
+    go (some v) f next = clash {b = true} refl (rw (f, locatedFrom) at e)
+
+pub value-located : (t k : List ℕ) → valueOf t (located t k) ≡ valueOr (lookup (rows t) k)
+unfolding valueOr located
+value-located t k = go ((located t k) .found) refl ∙ ap valueOr (sym (lookup-located t k))
+  where
+    go : (b : Bool) → (located t k) .found ≡ b → valueOf t (located t k) ≡ valueOr (valueIf t (located t k))
+    go true e = rw e
+    go false e = rw e (ap (λ (n : ℕ). take n (drop ((located t k) .start) t)) (none-empty 0 (rows t) k e))
+
+pub found-located : (t k : List ℕ) → (located t k) .found ≡ isFound (lookup (rows t) k)
+unfolding isFound
+found-located t k = go ((located t k) .found) refl ∙ ap isFound (sym (lookup-located t k))
+  where
+    go : (b : Bool) → (located t k) .found ≡ b → (located t k) .found ≡ isFound (valueIf t (located t k))
+    go true e = rw e
+    go false e = rw e

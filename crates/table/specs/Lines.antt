@@ -45,3 +45,12 @@ valueOf t f = take (f .len) (drop (f .start) t)
 -- what an answer says, as the standard's lookup says it
 abbrev pub valueIf : List ℕ → Located → Option (List ℕ)
 valueIf t f = cond (f .found) (some (valueOf t f)) none
+
+-- a lookup's answer: its value, or nothing, and whether there is one
+unfoldable pub valueOr : Option (List ℕ) → List ℕ
+valueOr none = []
+valueOr (some v) = v
+
+unfoldable pub isFound : Option (List ℕ) → Bool
+isFound none = false
+isFound (some v) = true

@@ -40,14 +40,14 @@ refused-requires c κs = search needs
 returns : tie.Need-returns
 returns c =
     let k = c .before .before .before in
-    let b = k .before .before .before .before .before .before in
+    let b = k .before .before .before .before .before .before .before in
     delivers.refused-stands (b .args .aliases .now) (b .args .id .now) _ _ (k .canonical-form .result) (c .refused .result) (c .refused .ensures) (k .canonical-form .ensures .0) (c .before .match .keys2)
 
 -- src/lib.rt:36:13
 abbrev form : tie.After-c → Form
 form c = c .c .given .0 .0
 
-fits : (c : tie.After-c) → form c .len ≤ length (c .before .before .before .canonical-form .last .1 .1 .0)
+fits : (c : tie.After-c) → form c .len ≤ length (c .before .before .before .canonical-form .last .1 .1 .1 .0)
 fits c =
     let k = c .before .before .before in
     omega (arith, delivers.form-small (k .canonical-form .result) (form c) (c .c .given .1) (k .canonical-form .ensures .1), k .before .before .buffer .ensures)
@@ -73,7 +73,7 @@ returns-2 c =
     let d = c .before .before in
     let t = d .before .before .before .before in
     let k = t .before .before .before in
-    let b = k .before .before .before .before .before .before in
+    let b = k .before .before .before .before .before .before .before in
     delivers.form-delivered (b .args .aliases .now) (b .args .id .now) _ _ _ (k .canonical-form .result) (form t) (d .deliver .result) (t .c .given .1) (k .canonical-form .ensures .0) (d .deliver .ensures)
 
 pub canonicalise-tested-spec : {M : Type 1} → statement M

@@ -16,26 +16,26 @@ use Rattle.canonical.proofs.alias.put_replaced.Lts as lts
 use Rattle.canonical.proofs.alias.put.Reads as put-reads
 
 -- src/alias.rt:70:9
-lookup-sorted-requires : tie.Need-lookup-sorted-requires
-lookup-sorted-requires c κs = search needs
+lookup-hinted-requires : tie.Need-lookup-hinted-requires
+lookup-hinted-requires c κs = search needs
 
 -- src/alias.rt:72:9
-abbrev text : tie.After-lookup-sorted → List ℕ
+abbrev text : tie.After-lookup-hinted → List ℕ
 text c =
-    let a = c .before .before .before .before .before .args in
+    let a = c .before .before .before .before .before .before .args in
     replacedBy (lookup (rows (a .aliases .now)) (a .key .now)) (drop (a .skip) (a .key .now))
 
-found : (c : tie.Then1) → c .before .lookup-sorted .result .now ≡ text (c .before)
+found : (c : tie.Then1) → c .before .lookup-hinted .result .now ≡ text (c .before)
 found c =
     let f = c .before in
-    let sorted = f .before .before .before .before .before .pre .1 in
-    f .lookup-sorted .ensures .0 sorted ∙ keys.found-row _ _ _ (sym (f .lookup-sorted .ensures .1 sorted) ∙ c .if1 .taken)
+    let sorted = f .before .before .before .before .before .before .pre .1 in
+    f .lookup-hinted .ensures .0 sorted ∙ keys.found-row _ _ _ (sym (f .lookup-hinted .ensures .1 sorted) ∙ c .if1 .taken)
 
-not-found : (c : tie.Else1) → let a = c .before .before .before .before .before .before .args in take (length (a .key .now) - a .skip) (drop (a .skip) (a .key .now)) ≡ text (c .before)
+not-found : (c : tie.Else1) → let a = c .before .before .before .before .before .before .before .args in take (length (a .key .now) - a .skip) (drop (a .skip) (a .key .now)) ≡ text (c .before)
 not-found c =
     let f = c .before in
-    let b = f .before .before .before .before .before in
-    keys.rest-of (b .args .key .now) (b .args .skip) ∙ keys.no-row _ _ _ (sym (f .lookup-sorted .ensures .1 (b .pre .1)) ∙ c .if1 .left)
+    let b = f .before .before .before .before .before .before in
+    keys.rest-of (b .args .key .now) (b .args .skip) ∙ keys.no-row _ _ _ (sym (f .lookup-hinted .ensures .1 (b .pre .1)) ∙ c .if1 .left)
 
 put-requires : tie.Need-put-requires
 put-requires c κs =
@@ -50,7 +50,7 @@ same-length c = search needs
 returns : tie.Need-returns
 returns c =
     let p = c .before .before in
-    let a = p .before .before .before .before .before .before .before .before .args in
+    let a = p .before .before .before .before .before .before .before .before .before .args in
     let v = found (p .before .before) in
     (p .put .ensures .0 ∙ ap (λ (x : List ℕ). a .at + length x) v, p .put .ensures .1 ∙ ap (sets (a .out .now) (a .at)) v)
 
@@ -80,7 +80,7 @@ same-length-2 c = search needs
 returns-2 : tie.Need-returns-2
 returns-2 c =
     let p = c .before .before in
-    let a = p .before .before .before .before .before .before .before .before .before .args in
+    let a = p .before .before .before .before .before .before .before .before .before .before .args in
     let v = not-found (p .before .before .before) in
     (p .put2 .ensures .0 ∙ ap (λ (x : List ℕ). a .at + length x) v, p .put2 .ensures .1 ∙ ap (sets (a .out .now) (a .at)) v)
 
@@ -88,7 +88,7 @@ pub put-replaced-spec : {M : Type 1} → statement M
 put-replaced-spec =
     tie.close
     (tie.spec
-    lookup-sorted-requires
+    lookup-hinted-requires
     put-requires
     same-length
     returns

@@ -41,14 +41,14 @@ put-first-requires c κs = search needs
 -- src/alias.rt:122:9
 abbrev tag : tie.After-key4 → Tag
 tag c =
-    let a = c .before .before .before .before .before .before .before .before .before .before .before .args in
+    let a = c .before .before .before .before .before .before .before .before .before .before .before .before .args in
     pick (raisedTag (a .count) (map tidyByte (a .given .now))) (a .brought .now)
 
 key : (c : tie.After-key4)
-    → keys.Keyed (c .before .before .before .before .before .before .before .before .before .before .before .args .name .now) (tag c) (c .before .put-first .last .1 .1 .1 .0)
+    → keys.Keyed (c .before .before .before .before .before .before .before .before .before .before .before .before .args .name .now) (tag c) (c .before .put-first .last .1 .1 .1 .0)
     (c .before .before .before .before .put .result) (c .before .put-first .result)
 key c =
-    let b = c .before .before .before .before .before .before .before .before .before .before .before in
+    let b = c .before .before .before .before .before .before .before .before .before .before .before .before in
     let a = b .args in
     let m = length-map (a .given .now) tidyByte in
     let z : length (tag c) ≤ 8 = raised.pick-small 8 (a .count) (map tidyByte (a .given .now)) (a .brought .now) (omega arith) (omega arith) in
@@ -57,7 +57,7 @@ key c =
 
 -- what is written, by the key's bytes
 part : (c : tie.Else1)
-    → (let a = c .before .before .before .before .before .before .before .before .before .before .before .before .args in
+    → (let a = c .before .before .before .before .before .before .before .before .before .before .before .before .before .args in
     let x = take (c .before .before .put-first .result) (c .before .before .put-first .last .1 .1 .1 .0) in
     aliasedPart (a .aliases .now) (a .name .now) (tag (c .before)) ≡ led (optional (replacedBy (lookup (rows (a .aliases .now)) x) (drop (c .before .before .before .before .before .put .result) x))))
 part c =
@@ -67,7 +67,7 @@ part c =
 returns : tie.Need-returns
 returns c =
     let k = c .before in
-    let a = k .before .before .before .before .before .before .before .before .before .before .before .args in
+    let a = k .before .before .before .before .before .before .before .before .before .before .before .before .args in
     let z : length (tag k) ≡ 0 = omega (arith, k .before .put-first .ensures .0) in
     let e = keys.aliased-none (a .aliases .now) (a .name .now) (tag k) z in
     (omega (arith, ap length e), ap (sets (a .out .now) (a .at)) (sym e))
@@ -84,7 +84,7 @@ slice-aggregate-write-replaced c = (key (c .before .before)) .size
 write-replaced-requires : tie.Need-write-replaced-requires
 write-replaced-requires c κs =
     let e = c .before .before in
-    let b = e .before .before .before .before .before .before .before .before .before .before .before .before in
+    let b = e .before .before .before .before .before .before .before .before .before .before .before .before .before in
     ((key (e .before)) .skips, b .pre .3, omega (arith, ap length (part e)))
 
 -- src/alias.rt:106:1
@@ -96,7 +96,7 @@ returns-2 : tie.Need-returns-2
 returns-2 c =
     let p = c .before .before in
     let e = p .before .before .before in
-    let a = e .before .before .before .before .before .before .before .before .before .before .before .before .args in
+    let a = e .before .before .before .before .before .before .before .before .before .before .before .before .before .args in
     let w = sym (part e) in
     (p .write-replaced .ensures .0 ∙ ap (λ (x : List ℕ). a .at + length x) w, p .write-replaced .ensures .1 ∙ ap (sets (a .out .now) (a .at)) w)
 

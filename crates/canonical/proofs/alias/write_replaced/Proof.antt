@@ -16,33 +16,33 @@ use Rattle.canonical.proofs.alias.write_replaced.Tie as tie
 use Rattle.canonical.proofs.alias.write_replaced.Reads as reads
 use Rattle.canonical.proofs.alias.write_replaced.Lts as lts
 use Rattle.canonical.proofs.alias.put_led.Reads as put-led-reads
-use Rattle.table.proofs.lookup_sorted.Reads as lookup-sorted-reads
+use Rattle.table.proofs.hints.lookup_hinted.Reads as lookup-hinted-reads
 
 -- src/alias.rt:97:9
-lookup-sorted-requires : tie.Need-lookup-sorted-requires
-lookup-sorted-requires c κs = search needs
+lookup-hinted-requires : tie.Need-lookup-hinted-requires
+lookup-hinted-requires c κs = search needs
 
 -- src/alias.rt:99:9
-abbrev text : tie.After-lookup-sorted → List ℕ
+abbrev text : tie.After-lookup-hinted → List ℕ
 text c =
-    let a = c .before .before .before .before .before .args in
+    let a = c .before .before .before .before .before .before .args in
     replacedBy (lookup (rows (a .aliases .now)) (a .key .now)) (drop (a .skip) (a .key .now))
 
 abbrev bytes : List ℕ → List ℕ
 bytes t = led (optional t)
 
-found : (c : tie.Then1) → bytes (c .before .lookup-sorted .result .now) ≡ bytes (text (c .before))
+found : (c : tie.Then1) → bytes (c .before .lookup-hinted .result .now) ≡ bytes (text (c .before))
 found c =
     let f = c .before in
-    let sorted = f .before .before .before .before .before .pre .1 in
-    ap bytes (f .lookup-sorted .ensures .0 sorted ∙ keys.found-row _ _ _ (sym (f .lookup-sorted .ensures .1 sorted) ∙ c .if1 .taken))
+    let sorted = f .before .before .before .before .before .before .pre .1 in
+    ap bytes (f .lookup-hinted .ensures .0 sorted ∙ keys.found-row _ _ _ (sym (f .lookup-hinted .ensures .1 sorted) ∙ c .if1 .taken))
 
 not-found : (c : tie.Else1)
-    → let a = c .before .before .before .before .before .before .args in bytes (take (length (a .key .now) - a .skip) (drop (a .skip) (a .key .now))) ≡ bytes (text (c .before))
+    → let a = c .before .before .before .before .before .before .before .args in bytes (take (length (a .key .now) - a .skip) (drop (a .skip) (a .key .now))) ≡ bytes (text (c .before))
 not-found c =
     let f = c .before in
-    let b = f .before .before .before .before .before in
-    ap bytes (keys.rest-of (b .args .key .now) (b .args .skip) ∙ keys.no-row _ _ _ (sym (f .lookup-sorted .ensures .1 (b .pre .1)) ∙ c .if1 .left))
+    let b = f .before .before .before .before .before .before in
+    ap bytes (keys.rest-of (b .args .key .now) (b .args .skip) ∙ keys.no-row _ _ _ (sym (f .lookup-hinted .ensures .1 (b .pre .1)) ∙ c .if1 .left))
 
 put-led-requires : tie.Need-put-led-requires
 put-led-requires c κs = omega (arith, ap length (found (c .before)))
@@ -55,7 +55,7 @@ same-length c = search needs
 returns : tie.Need-returns
 returns c =
     let p = c .before .before in
-    let a = p .before .before .before .before .before .before .before .before .args in
+    let a = p .before .before .before .before .before .before .before .before .before .args in
     let v = found (p .before .before) in
     (p .put-led .ensures .0 ∙ ap (λ (x : List ℕ). a .at + length x) v, p .put-led .ensures .1 ∙ ap (sets (a .out .now) (a .at)) v)
 
@@ -83,7 +83,7 @@ same-length-2 c = search needs
 returns-2 : tie.Need-returns-2
 returns-2 c =
     let p = c .before .before in
-    let a = p .before .before .before .before .before .before .before .before .before .args in
+    let a = p .before .before .before .before .before .before .before .before .before .before .args in
     let v = not-found (p .before .before .before) in
     (p .put-led2 .ensures .0 ∙ ap (λ (x : List ℕ). a .at + length x) v, p .put-led2 .ensures .1 ∙ ap (sets (a .out .now) (a .at)) v)
 
@@ -91,7 +91,7 @@ pub write-replaced-spec : {M : Type 1} → statement M
 write-replaced-spec =
     tie.close
     (tie.spec
-    lookup-sorted-requires
+    lookup-hinted-requires
     put-led-requires
     same-length
     returns

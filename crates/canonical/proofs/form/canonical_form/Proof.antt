@@ -30,7 +30,7 @@ unread-requires c κs = search needs
 returns : tie.Need-returns
 returns c =
     let r = c .before .before in
-    let b = r .before .before .before .before in
+    let b = r .before .before .before .before .before in
     outcomes.stands-as (b .args .aliases .now) (b .args .id .now) _ (r .read-parts .result) (c .unread .result) (c .unread .ensures) (r .read-parts .ensures) (c .before .match .keys2)
 
 -- src/form.rt:121:9
@@ -38,9 +38,9 @@ write-form-requires : tie.Need-write-form-requires
 write-form-requires c κs =
     let m = c .before .before .before in
     let r = m .before in
-    let b = r .before .before .before .before in
+    let b = r .before .before .before .before .before in
     let w = outcomes.was-read (b .args .aliases .now) (b .args .id .now) (b .args .out .now) (r .read-parts .result) _ (r .read-parts .ensures) (c .before .before .reading .given .1) in
-    (w .0, w .1, delivers.tested (b .args .aliases .now) (b .pre .0), b .pre .1)
+    (w .0, w .1, delivers.tested-with (b .args .aliases .now) (b .args .hints .now) (b .pre .0) (b .pre .2), b .pre .1)
 
 -- src/form.rt:123:9
 same-length : tie.Need-same-length
@@ -52,9 +52,9 @@ returns-2 c =
     let w = c .before .before .before .before in
     let m = w .before .before .before .before in
     let r = m .before in
-    let b = r .before .before .before .before in
+    let b = r .before .before .before .before .before in
     let g = outcomes.was-read (b .args .aliases .now) (b .args .id .now) (b .args .out .now) (r .read-parts .result) _ (r .read-parts .ensures) (w .before .before .before .reading .given .1) in
-    outcomes.too-long (b .args .aliases .now) (b .args .id .now) (w .write-form .last .1 .1 .1 .0) (g .0) (w .write-form .result) (w .write-form .ensures .0) (c .if1 .taken)
+    outcomes.too-long (b .args .aliases .now) (b .args .id .now) (w .write-form .last .1 .1 .1 .1 .0) (g .0) (w .write-form .result) (w .write-form .ensures .0) (c .if1 .taken)
 
 -- src/form.rt:113:1
 same-length-2 : tie.Need-same-length-2
@@ -66,9 +66,9 @@ returns-3 c =
     let w = c .before .before .before .before in
     let m = w .before .before .before .before in
     let r = m .before in
-    let b = r .before .before .before .before in
+    let b = r .before .before .before .before .before in
     let g = outcomes.was-read (b .args .aliases .now) (b .args .id .now) (b .args .out .now) (r .read-parts .result) _ (r .read-parts .ensures) (w .before .before .before .reading .given .1) in
-    outcomes.fits (b .args .aliases .now) (b .args .id .now) (w .write-form .last .1 .1 .1 .0) (g .0) (w .write-form .result) (w .write-form .ensures .0) (b .args .out .now) (w .write-form .ensures .1) (w .write-form .ensures .2) (omega (arith, b .pre .1)) (c .if1 .left)
+    outcomes.fits (b .args .aliases .now) (b .args .id .now) (w .write-form .last .1 .1 .1 .1 .0) (g .0) (w .write-form .result) (w .write-form .ensures .0) (b .args .out .now) (w .write-form .ensures .1) (w .write-form .ensures .2) (omega (arith, b .pre .1)) (c .if1 .left)
 
 pub canonical-form-spec : {M : Type 1} → statement M
 canonical-form-spec =

@@ -24,7 +24,7 @@ write-three-requires c κs = search needs
 -- src/form.rt:79:35
 -- the sections, from the start
 abbrev start : tie.After-write-three → tie.Start
-start c = c .before .before .before .before .before
+start c = c .before .before .before .before .before .before
 
 sections : (b : tie.Start) → formed.Lent (b .args .id .now) (identifierOf (split (b .args .id .now))) (b .args .p .region) (b .args .p .variants) (b .args .p .extensions)
 sections b = formed.lent (b .args .id .now) (b .pre .0) (b .args .p) (b .pre .1)
@@ -86,10 +86,10 @@ abbrev variants : tie.After-write-extensions → tie.After-write-variants
 variants c = c .before .before .before .before .before
 
 -- the buffer keeps its length
-kept-three : (c : tie.After-write-three) → length (c .write-three .last .1 .1 .1 .0) ≡ 512
+kept-three : (c : tie.After-write-three) → length (c .write-three .last .1 .1 .1 .1 .0) ≡ 512
 kept-three c = omega (arith, start c .pre .3)
 
-kept-variants : (c : tie.After-write-variants) → length (c .write-variants .last .1 .1 .0) ≡ 512
+kept-variants : (c : tie.After-write-variants) → length (c .write-variants .last .1 .1 .1 .0) ≡ 512
 kept-variants c = omega (arith, kept-three (three c))
 
 kept : (c : tie.After-write-extensions) → length (c .write-extensions .last .1 .0) ≡ 512

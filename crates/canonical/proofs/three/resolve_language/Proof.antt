@@ -30,19 +30,19 @@ array-share-prefix-key c = search needs
 slice-aggregate-put-replaced : tie.Need-slice-aggregate-put-replaced
 slice-aggregate-put-replaced c =
     let p = c .before .before in
-    let b = p .before .before .before .before .before in
+    let b = p .before .before .before .before .before .before in
     cores.key-size (b .args .aliases .now) (b .args .id .now) (b .pre .2 .passes) (b .pre .0) _ (p .put-language .last .1 .1 .0) (p .put-language .result) (p .put-language .ensures .0) (p .put-language .ensures .2) (omega (arith, p .put-language .ensures .1))
 
 -- src/three.rt:99:5
 put-replaced-requires : tie.Need-put-replaced-requires
 put-replaced-requires c κs =
     let p = c .before .before .before in
-    let b = p .before .before .before .before .before in
+    let b = p .before .before .before .before .before .before in
     let A = b .args .aliases .now in
     let x = b .args .id .now in
     let w = cores.key-word A x (b .pre .2 .passes) (b .pre .0) _ (p .put-language .last .1 .1 .0) (p .put-language .result) (p .put-language .ensures .0) (p .put-language .ensures .2) (omega (arith, p .put-language .ensures .1)) in (
       cores.key-skips A x (b .pre .2 .passes) (b .pre .0) _ (p .put-language .last .1 .1 .0) (p .put-language .result) (p .put-language .ensures .0) (p .put-language .ensures .2) (omega (arith, p .put-language .ensures .1)),
-      b .pre .2 .sorted,
+      b .pre .2 .indexed,
       omega (arith, ap length w, cores.word-small A x (b .pre .2 .passes) (b .pre .0)),
     )
 
@@ -55,7 +55,7 @@ returns : tie.Need-returns
 returns c =
     let r = c .before .before in
     let p = r .before .before .before .before in
-    let b = p .before .before .before .before .before in
+    let b = p .before .before .before .before .before .before in
     let A = b .args .aliases .now in
     let x = b .args .id .now in
     let w = cores.key-word A x (b .pre .2 .passes) (b .pre .0) _ (p .put-language .last .1 .1 .0) (p .put-language .result) (p .put-language .ensures .0) (p .put-language .ensures .2) (omega (arith, p .put-language .ensures .1)) in (

@@ -54,7 +54,7 @@ slice-aggregate-write-aliased c = search needs
 write-aliased-requires : tie.Need-write-aliased-requires
 write-aliased-requires c κs =
     let d = c .before .before .before .before in
-    let b = d .before .before .before .before .before .before in
+    let b = d .before .before .before .before .before .before .before in
     let a = b .args in
     let e = places.region-is (a .aliases .now) (a .id .now) (a .w .now) _ _ _ _ _ _ (d .before .after-separator .ensures .0) (d .after-separator2 .ensures .0) in (
       places.slice-small (a .id .now) (d .before .after-separator .result) (a .region) 8 (omega (arith, d .before .after-separator .ensures .0)),
@@ -73,7 +73,7 @@ returns : tie.Need-returns
 returns c =
     let p = c .before .before in
     let d = p .before .before .before .before .before in
-    let a = d .before .before .before .before .before .before .args in
+    let a = d .before .before .before .before .before .before .before .args in
     let e = places.region-is (a .aliases .now) (a .id .now) (a .w .now) _ _ _ _ _ _ (d .before .after-separator .ensures .0) (d .after-separator2 .ensures .0) in
     (p .write-aliased .ensures .0 ∙ ap (λ (x : List ℕ). a .at + length x) e, p .write-aliased .ensures .1 ∙ ap (sets (a .out .now) (a .at)) e)
 

@@ -31,14 +31,14 @@ array-share-prefix-word c = search needs
 slice-aggregate-write-from : tie.Need-slice-aggregate-write-from
 slice-aggregate-write-from c =
     let r = c .before .before in
-    sym (length-take-le (r .resolve-language .result) (r .resolve-language .last .1 .1 .1 .0) (omega (arith, r .resolve-language .ensures .1)))
+    sym (length-take-le (r .resolve-language .result) (r .resolve-language .last .1 .1 .1 .1 .0) (omega (arith, r .resolve-language .ensures .1)))
 
 -- src/three.rt:130:5
 write-from-requires : tie.Need-write-from-requires
 write-from-requires c κs =
     let r = c .before .before .before in
-    let b = r .before .before .before .before .before in
-    let h : r .resolve-language .result ≤ length (r .resolve-language .last .1 .1 .1 .0) = omega (arith, r .resolve-language .ensures .1) in
+    let b = r .before .before .before .before .before .before in
+    let h : r .resolve-language .result ≤ length (r .resolve-language .last .1 .1 .1 .1 .0) = omega (arith, r .resolve-language .ensures .1) in
     (b .pre .0, b .pre .1, b .pre .2, keys.front-in _ _ _ _ (r .resolve-language .ensures .0) (r .resolve-language .ensures .2) h, omega arith)
 
 -- src/three.rt:124:1

@@ -15,15 +15,15 @@ use Rattle.canonical.proofs.alias.write_aliased.Reads as write-aliased-
 use Rattle.subtag.proofs.judge.Reads as judge-reads
 
 abbrev Inv-loop : tie.InvT-loop
-Inv-loop s aliases out₀ n at₀ end₀ t10 out at end = (n ≡ length s) × resolves.Resolving aliases s out₀ at out end
+Inv-loop s aliases hints out₀ n at₀ end₀ t10 out at end = (n ≡ length s) × resolves.Resolving aliases s out₀ at out end
 
 abbrev μ-loop : tie.MeasureT-loop
-μ-loop s aliases out₀ n at₀ end₀ t10 out at end = length s - at
+μ-loop s aliases hints out₀ n at₀ end₀ t10 out at end = length s - at
 
 -- src/variants.rt:20:5
 loop-holds : tie.Need-loop-holds Inv-loop μ-loop
 loop-holds c =
-    let b = c .before .before .before in
+    let b = c .before .before .before .before in
     (refl, resolves.resolving-start (b .args .aliases .now) (b .args .s .now) (b .args .out .now) (b .pre .0) (b .pre .1))
 
 -- src/variants.rt:21:21
@@ -49,11 +49,11 @@ judge-requires c κs = search needs
 -- src/variants.rt:23:20
 -- the variant at hand
 fits : (c : tie.After-judge Inv-loop μ-loop) → let l = c .before .before .before .loop in
-    (l .at + 1 + c .judge .result .len ≤ length (c .before .before .before .before .before .before .before .args .s .now)) × (c .judge .result .len ≤ 8)
+    (l .at + 1 + c .judge .result .len ≤ length (c .before .before .before .before .before .before .before .before .args .s .now)) × (c .judge .result .len ≤ 8)
 fits c =
     let t = c .before .before in
     let l = t .before .loop in
-    let b = t .before .before .before .before .before in (
+    let b = t .before .before .before .before .before .before in (
       resolves.stop-fits (b .args .aliases .now) (b .args .s .now) (b .args .out .now) (l .at) (l .out) (l .end) (l .inv .1) (omega arith) (c .judge .result) (c .judge .ensures),
       resolves.tag-small (b .args .aliases .now) (b .args .s .now) (b .args .out .now) (l .at) (l .out) (l .end) (l .inv .1) (omega arith) (c .judge .result) (c .judge .ensures),
     )
@@ -87,7 +87,7 @@ write-aliased-requires c κs =
     let j = c .before .before .before .before .before in
     let t = j .before .before in
     let l = t .before .loop in
-    let b = t .before .before .before .before .before in
+    let b = t .before .before .before .before .before .before in
     let stop = l .at + 1 + j .judge .result .len in (
       places.slice-small (b .args .s .now) (l .at + 1) stop 8 (omega (arith, (fits j) .1)),
       omega arith,
@@ -109,7 +109,7 @@ loop-again c =
     let j = p .before .before .before .before .before .before in
     let t = j .before .before in
     let l = t .before .loop in
-    let b = t .before .before .before .before .before in
+    let b = t .before .before .before .before .before .before in
     let stop = l .at + 1 + j .judge .result .len in (
       refl,
       resolves.resolving-next (b .args .aliases .now) (b .args .s .now) (b .args .out .now) (l .at) (l .out) (l .end) (l .inv .1) (omega arith) (j .judge .result) (j .judge .ensures) stop refl _ _ (p .write-aliased .ensures .0) (p .write-aliased .ensures .1),
@@ -122,7 +122,7 @@ same-length c = c .before .loop .inv .1 .same-size
 -- src/variants.rt:13:1
 returns : tie.Need-returns Inv-loop μ-loop
 returns c =
-    let b = c .before .before .before .before .before in
+    let b = c .before .before .before .before .before .before in
     resolves.resolving-done (b .args .aliases .now) (b .args .s .now) (b .args .out .now) (c .before .loop .at) (c .before .loop .out) (c .before .loop .end) (c .before .loop .inv .1) (omega (arith, c .before .loop .inv .0))
 
 pub resolve-variants-spec : {M : Type 1} → statement M

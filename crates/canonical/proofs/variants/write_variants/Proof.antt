@@ -20,7 +20,7 @@ use Rattle.canonical.proofs.buffer.buffer.Reads as buffer-reads
 -- src/variants.rt:48:9
 returns : tie.Need-returns
 returns c =
-    let b = c .before .before .before .before in
+    let b = c .before .before .before .before .before in
     let e = merged.no-variants (b .args .aliases .now) (b .pre .3 .passes) (b .args .s .now) (c .if1 .taken) in
     (omega (arith, ap length e), ap (sets (b .args .out .now) (b .args .at)) (sym e))
 
@@ -35,21 +35,21 @@ slice-aggregate-resolve-variants c = search needs
 -- src/variants.rt:51:9
 resolve-variants-requires : tie.Need-resolve-variants-requires
 resolve-variants-requires c κs =
-    let b = c .before .before .before .before .before .before in
-    (b .pre .0, b .pre .1, b .pre .3 .sorted, omega (arith, merged.resolved-fits (b .args .aliases .now) (b .pre .3 .passes) (b .args .s .now) (b .pre .0) (b .pre .2) (b .pre .4), c .before .buffer .ensures))
+    let b = c .before .before .before .before .before .before .before in
+    (b .pre .0, b .pre .1, b .pre .3 .indexed, omega (arith, merged.resolved-fits (b .args .aliases .now) (b .pre .3 .passes) (b .args .s .now) (b .pre .0) (b .pre .2) (b .pre .4), c .before .buffer .ensures))
 
 -- src/variants.rt:52:18
-fits : (c : tie.After-resolve-variants) → (c .resolve-variants .result ≤ length (c .resolve-variants .last .1 .1 .0)) × (c .resolve-variants .result ≤ 459)
+fits : (c : tie.After-resolve-variants) → (c .resolve-variants .result ≤ length (c .resolve-variants .last .1 .1 .1 .0)) × (c .resolve-variants .result ≤ 459)
 fits c =
-    let b = c .before .before .before .before .before .before .before in
+    let b = c .before .before .before .before .before .before .before .before in
     let n = merged.resolved-fits (b .args .aliases .now) (b .pre .3 .passes) (b .args .s .now) (b .pre .0) (b .pre .2) (b .pre .4) in
     (omega (arith, c .resolve-variants .ensures .0, c .before .before .buffer .ensures), omega (arith, c .resolve-variants .ensures .0))
 
 -- the section of the replaced variants
-part : (c : tie.After-resolve-variants) → let b = c .before .before .before .before .before .before .before in
-    merged.Section (b .args .aliases .now) (b .pre .3 .passes) (tagsOf (b .args .s .now)) (take (c .resolve-variants .result) (c .resolve-variants .last .1 .1 .0))
+part : (c : tie.After-resolve-variants) → let b = c .before .before .before .before .before .before .before .before in
+    merged.Section (b .args .aliases .now) (b .pre .3 .passes) (tagsOf (b .args .s .now)) (take (c .resolve-variants .result) (c .resolve-variants .last .1 .1 .1 .0))
 part c =
-    let b = c .before .before .before .before .before .before .before in
+    let b = c .before .before .before .before .before .before .before .before in
     merged.scratch (b .args .aliases .now) (b .pre .3 .passes) (b .args .s .now) (b .pre .0) (b .pre .2) (b .pre .4) _ _ _ (c .resolve-variants .ensures .0) (c .resolve-variants .ensures .1) ((fits c) .0)
 
 array-share-prefix-scratch : tie.Need-array-share-prefix-scratch
@@ -59,13 +59,13 @@ array-share-prefix-scratch c = (fits (c .before)) .0
 slice-aggregate-write-sorted : tie.Need-slice-aggregate-write-sorted
 slice-aggregate-write-sorted c =
     let r = c .before .before in
-    sym (length-take-le (r .resolve-variants .result) (r .resolve-variants .last .1 .1 .0) ((fits r) .0))
+    sym (length-take-le (r .resolve-variants .result) (r .resolve-variants .last .1 .1 .1 .0) ((fits r) .0))
 
 -- src/variants.rt:52:5
 write-sorted-requires : tie.Need-write-sorted-requires
 write-sorted-requires c κs =
     let r = c .before .before .before in
-    let n = length-take-le (r .resolve-variants .result) (r .resolve-variants .last .1 .1 .0) ((fits r) .0) in
+    let n = length-take-le (r .resolve-variants .result) (r .resolve-variants .last .1 .1 .1 .0) ((fits r) .0) in
     (omega (arith, (fits r) .1), omega (arith, (fits r) .1), (part r) .begins, (part r) .plain)
 
 -- src/variants.rt:43:1
@@ -77,7 +77,7 @@ returns-2 : tie.Need-returns-2
 returns-2 c =
     let w = c .before .before in
     let r = w .before .before .before .before in
-    let a = r .before .before .before .before .before .before .before .args in
+    let a = r .before .before .before .before .before .before .before .before .args in
     let e = (part r) .sorted in
     (w .write-sorted .ensures .0 ∙ ap (λ (x : List ℕ). a .at + length x) e, w .write-sorted .ensures .1 ∙ ap (sets (a .out .now) (a .at)) e)
 

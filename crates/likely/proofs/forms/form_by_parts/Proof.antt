@@ -36,7 +36,7 @@ row-for-requires c κs = search needs
 returns : tie.Need-returns
 returns c = λ q.
     let k = known-are _ _ _ _ _ (c .before .before .before .before .before .known .ensures) (c .before .before .before .known2 .ensures) in
-    made-none _ _ _ _ _ _ _ k (c .before .row-for .ensures (ready-is _ _ _ k (q .first))) _ (flip-true (c .if1 .taken))
+    made-none _ _ _ _ _ _ _ k (c .before .row-for .ensures (ready-is _ _ _ _ k (q .first))) _ (flip-true (c .if1 .taken))
 
 cuts-of-requires : tie.Need-cuts-of-requires
 cuts-of-requires c κs = search needs
@@ -81,7 +81,7 @@ returns-2 : tie.Need-returns-2
 returns-2 c = λ q.
     let k = known-are _ _ _ _ _ (c .before .before .before .before .before .before .before .before .before .before .before .before .before .before .before .before .known .ensures) (c .before .before .before .before .before .before .before .before .before .before .before .before .before .before .known2 .ensures) in
     let o = over-are _ _ _ _ _ _ _ (c .before .before .before .before .before .before .before .before .before .before .cuts-of .ensures .2) (c .before .before .before .before .before .before .before .before .language-of .ensures) (c .before .before .before .before .before .before .first-of .ensures) (c .before .before .before .before .first-of2 .ensures) in
-    let z = filled-some true _ [] _ _ _ _ k (c .before .before .before .before .before .before .before .before .before .before .before .before .row-for .ensures (ready-is _ _ _ k (q .first))) (flip-false (c .before .before .before .before .before .before .before .before .before .before .before .if1 .left)) ∙ ap some (sym o) in
+    let z = filled-some true _ [] _ _ _ _ k (c .before .before .before .before .before .before .before .before .before .before .before .before .row-for .ensures (ready-is _ _ _ _ k (q .first))) (flip-false (c .before .before .before .before .before .before .before .before .before .before .before .if1 .left)) ∙ ap some (sym o) in
     then-given _ _ _ _ (c .before .before .finish .ensures (q .again _ z)) (made-some _ _ _ _ _ z)
 
 pub form-by-parts-spec : {M : Type 1} → statement M

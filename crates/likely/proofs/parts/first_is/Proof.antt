@@ -4,19 +4,19 @@ use Rattle.likely.proofs.parts.first_is.Statement.{statement}
 use Rattle.likely.proofs.parts.first_is.Tie as tie
 use Rattle.likely.proofs.parts.first_is.Reads as reads
 use Rattle.likely.proofs.parts.first_is.Lts as lts
-use Rattle.likely.proofs.parts.is_same.Reads as is-same-reads
+use Rattle.subtag.proofs.same.Reads as same-reads
 
-is-same-requires : tie.Need-is-same-requires
-is-same-requires c κs = search needs
+same-requires : tie.Need-same-requires
+same-requires c κs = search needs
 
 returns : tie.Need-returns
-returns c = other-is _ _ _ (c .is-same .ensures) (c .before .if1 .taken)
+returns c = other-is _ _ _ (c .same .ensures) (c .before .if1 .taken)
 
-is-same-requires-2 : tie.Need-is-same-requires-2
-is-same-requires-2 c κs = search needs
+same-requires-2 : tie.Need-same-requires-2
+same-requires-2 c κs = search needs
 
 returns-2 : tie.Need-returns-2
-returns-2 c = first-is-same _ _ _ (c .is-same2 .ensures) (c .before .if1 .left)
+returns-2 c = first-is-same _ _ _ (c .same2 .ensures) (c .before .if1 .left)
 
 pub first-is-spec : {M : Type 1} → statement M
-first-is-spec = tie.close (tie.spec is-same-requires returns is-same-requires-2 returns-2)
+first-is-spec = tie.close (tie.spec same-requires returns same-requires-2 returns-2)

@@ -5,23 +5,23 @@ use Rattle.likely.proofs.parts.is_complete.Statement.{statement}
 use Rattle.likely.proofs.parts.is_complete.Tie as tie
 use Rattle.likely.proofs.parts.is_complete.Reads as reads
 use Rattle.likely.proofs.parts.is_complete.Lts as lts
-use Rattle.likely.proofs.parts.is_same.Reads as is-same-reads
+use Rattle.subtag.proofs.same.Reads as same-reads
 
-slice-aggregate-is-same : tie.Need-slice-aggregate-is-same
-slice-aggregate-is-same c = search needs
+slice-aggregate-same : tie.Need-slice-aggregate-same
+slice-aggregate-same c = search needs
 
-is-same-requires : tie.Need-is-same-requires
-is-same-requires c κs = search needs
+same-requires : tie.Need-same-requires
+same-requires c κs = search needs
 
 returns : tie.Need-returns
-returns c = no-language _ _ _ (c .before .is-same .ensures) (c .if1 .taken)
+returns c = no-language _ _ _ (c .before .same .ensures) (c .if1 .taken)
 
 returns-2 : tie.Need-returns-2
-returns-2 c = no-script _ _ _ (c .before .before .is-same .ensures) (c .before .if1 .left) (omega arith)
+returns-2 c = no-script _ _ _ (c .before .before .same .ensures) (c .before .if1 .left) (omega arith)
 
 returns-3 : tie.Need-returns-3
-returns-3 c = by-region _ _ _ (c .before .before .is-same .ensures) (c .before .if1 .left) (λ e. omega arith)
+returns-3 c = by-region _ _ _ (c .before .before .same .ensures) (c .before .if1 .left) (λ e. omega arith)
 
 pub is-complete-spec : {M : Type 1} → statement M
 is-complete-spec =
-    tie.close (tie.spec slice-aggregate-is-same is-same-requires returns returns-2 returns-3)
+    tie.close (tie.spec slice-aggregate-same same-requires returns returns-2 returns-3)

@@ -4,19 +4,19 @@ use Rattle.likely.proofs.parts.known.Statement.{statement}
 use Rattle.likely.proofs.parts.known.Tie as tie
 use Rattle.likely.proofs.parts.known.Reads as reads
 use Rattle.likely.proofs.parts.known.Lts as lts
-use Rattle.likely.proofs.parts.is_same.Reads as is-same-reads
+use Rattle.subtag.proofs.same.Reads as same-reads
 
-is-same-requires : tie.Need-is-same-requires
-is-same-requires c κs = search needs
+same-requires : tie.Need-same-requires
+same-requires c κs = search needs
 
 slice-aggregate-result : tie.Need-slice-aggregate-result
 slice-aggregate-result c = search needs
 
 returns : tie.Need-returns
-returns c = known-gone _ _ (c .before .before .is-same .ensures) (c .before .if1 .taken)
+returns c = known-gone _ _ (c .before .before .same .ensures) (c .before .if1 .taken)
 
 returns-2 : tie.Need-returns-2
-returns-2 c = known-kept _ _ (c .before .is-same .ensures) (c .if1 .left)
+returns-2 c = known-kept _ _ (c .before .same .ensures) (c .if1 .left)
 
 pub known-spec : {M : Type 1} → statement M
-known-spec = tie.close (tie.spec is-same-requires slice-aggregate-result returns returns-2)
+known-spec = tie.close (tie.spec same-requires slice-aggregate-result returns returns-2)

@@ -15,13 +15,13 @@ find-key-requires : tie.Need-find-key-requires
 find-key-requires c κs = leb-le _ _ (sym (c .before .before .has-room .ensures) ∙ c .before .if1 .taken)
 
 returns : tie.Need-returns
-returns c = ((λ q. c .find-key .ensures .0 (q .sorted)), (λ q. c .find-key .ensures .1 (q .sorted)))
+returns c = ((λ q. c .find-key .ensures .0 (q .indexed)), (λ q. c .find-key .ensures .1 (q .indexed)))
 
 slice-aggregate-result : tie.Need-slice-aggregate-result
 slice-aggregate-result c = search needs
 
 returns-2 : tie.Need-returns-2
-returns-2 c = no-room _ _ (c .before .before .has-room .ensures) (c .before .if1 .left)
+returns-2 c = no-room _ _ _ (c .before .before .has-room .ensures) (c .before .if1 .left)
 
 pub find-spec : {M : Type 1} → statement M
 find-spec =

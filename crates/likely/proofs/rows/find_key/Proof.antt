@@ -10,7 +10,7 @@ use Rattle.likely.proofs.rows.find_key.Tie as tie
 use Rattle.likely.proofs.rows.find_key.Reads as reads
 use Rattle.likely.proofs.rows.find_key.Lts as lts
 use Rattle.canonical.proofs.alias.put.Reads as put-reads
-use Rattle.table.proofs.lookup_sorted.Reads as lookup-sorted-reads
+use Rattle.table.proofs.hints.lookup_hinted.Reads as lookup-hinted-reads
 
 slice-aggregate-put : tie.Need-slice-aggregate-put
 slice-aggregate-put c = search needs
@@ -33,21 +33,21 @@ put-requires-3 c κs = search needs
 array-share-prefix-key : tie.Need-array-share-prefix-key
 array-share-prefix-key c = search needs
 
-slice-aggregate-lookup-sorted : tie.Need-slice-aggregate-lookup-sorted
-slice-aggregate-lookup-sorted c = sym (length-take-le _ _ (omega arith))
+slice-aggregate-lookup-hinted : tie.Need-slice-aggregate-lookup-hinted
+slice-aggregate-lookup-hinted c = sym (length-take-le _ _ (omega arith))
 
-lookup-sorted-requires : tie.Need-lookup-sorted-requires
-lookup-sorted-requires c κs = search needs
+lookup-hinted-requires : tie.Need-lookup-hinted-requires
+lookup-hinted-requires c κs = search needs
 
 returns : tie.Need-returns
 returns c =
     let p₃ = c .before .before .before .before .put3 in
     let p₂ = c .before .before .before .before .before .before .before .put2 in
     let p₁ = c .before .before .before .before .before .before .before .before .before .before .put in
-    let a = c .before .before .before .before .before .before .before .before .before .before .before .before .before .before .before .before .args in
+    let a = c .before .before .before .before .before .before .before .before .before .before .before .before .before .before .before .before .before .args in
     let room : length (a .language .now) + length (a .script .now) + length (a .region .now) ≤ 32 = omega arith in
     let k = put-three blank _ _ _ (a .language .now) (a .script .now) (a .region .now) _ _ _ (p₁ .ensures .1) (p₁ .ensures .0) (p₂ .ensures .1) (p₂ .ensures .0) (p₃ .ensures .1) (p₃ .ensures .0) room refl in
-    ((λ s. value-by _ _ _ _ (c .lookup-sorted .ensures .0 s) k), (λ s. found-by _ _ _ _ (c .lookup-sorted .ensures .1 s) k))
+    ((λ s. value-by _ _ _ _ (c .lookup-hinted .ensures .0 s) k), (λ s. found-by _ _ _ _ (c .lookup-hinted .ensures .1 s) k))
 
 pub find-key-spec : {M : Type 1} → statement M
 find-key-spec =
@@ -60,6 +60,6 @@ find-key-spec =
     slice-aggregate-put-3
     put-requires-3
     array-share-prefix-key
-    slice-aggregate-lookup-sorted
-    lookup-sorted-requires
+    slice-aggregate-lookup-hinted
+    lookup-hinted-requires
     returns)

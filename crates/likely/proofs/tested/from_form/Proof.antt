@@ -46,7 +46,7 @@ same-length : tie.Need-same-length
 same-length c = search needs
 
 returns : tie.Need-returns
-returns c = λ p rest s k. by-slices _ _ p rest _ _ _ _ _ _ (s .first) (s .second) (s .third) (s .fourth) (c .before .before .form-by-parts .ensures) k
+returns c = λ p rest s k. by-slices _ _ _ p rest _ _ _ _ _ _ (s .first) (s .second) (s .third) (s .fourth) (c .before .before .form-by-parts .ensures) k
 
 pub from-form-spec : {M : Type 1} → statement M
 from-form-spec =

@@ -8,7 +8,7 @@ use borrow.Fn.PlainCycle.{Measures, is, falls, and}
 use Rattle.parents.proofs.lines.list.Reads as list
 use Rattle.parents.proofs.lines.list.Kinds as list-kinds
 use Rattle.parents.proofs.lines.+list.Lts-list as list-lts
-use Rattle.likely.proofs.parts.is_same.Reads as is-same-reads
+use Rattle.subtag.proofs.same.Reads as same-reads
 use Rattle.parents.proofs.lines.add_line.Reads as add-line-reads
 use Rattle.parents.proofs.lines.fewer.Reads as fewer-reads
 use Rattle.parents.proofs.lines.last_line.Reads as last-line-reads
@@ -28,8 +28,8 @@ list-below t = and 2 list-kinds.ps (falls 2 list-kinds.ps _<_ μ-list t) list.Pr
 list-last-line-requires : (t : ℕ) → list-lts.Need-last-line-requires (
   last-line-reads.Asked,
   last-line-reads.Learnt,
-  is-same-reads.Asked,
-  is-same-reads.Learnt,
+  same-reads.Asked,
+  same-reads.Learnt,
   parent-of-reads.Asked,
   parent-of-reads.Learnt,
   fewer-reads.Asked,
@@ -44,8 +44,8 @@ list-last-line-requires t c κs = (omega arith, omega arith)
 list-same-length : (t : ℕ) → list-lts.Need-same-length (
   last-line-reads.Asked,
   last-line-reads.Learnt,
-  is-same-reads.Asked,
-  is-same-reads.Learnt,
+  same-reads.Asked,
+  same-reads.Learnt,
   parent-of-reads.Asked,
   parent-of-reads.Learnt,
   fewer-reads.Asked,
@@ -60,8 +60,8 @@ list-same-length t c = search needs
 list-returns : (t : ℕ) → list-lts.Need-returns (
   last-line-reads.Asked,
   last-line-reads.Learnt,
-  is-same-reads.Asked,
-  is-same-reads.Learnt,
+  same-reads.Asked,
+  same-reads.Learnt,
   parent-of-reads.Asked,
   parent-of-reads.Learnt,
   fewer-reads.Asked,
@@ -77,11 +77,11 @@ list-returns t c =
     let e = chain-none (a .parents .now) (a .allowed) (a .variants) (a .id .now) (c .before .before .before .before .if1 .taken) in
     (bounded-one _ _ _ _ _ _ (l .ensures .0) (l .ensures .1), λ s. lists-as e (record { listed = l .ensures .0; written = l .ensures .1 }))
 
-list-is-same-requires : (t : ℕ) → list-lts.Need-is-same-requires (
+list-same-requires : (t : ℕ) → list-lts.Need-same-requires (
   last-line-reads.Asked,
   last-line-reads.Learnt,
-  is-same-reads.Asked,
-  is-same-reads.Learnt,
+  same-reads.Asked,
+  same-reads.Learnt,
   parent-of-reads.Asked,
   parent-of-reads.Learnt,
   fewer-reads.Asked,
@@ -91,13 +91,13 @@ list-is-same-requires : (t : ℕ) → list-lts.Need-is-same-requires (
   add-line-reads.Asked,
   add-line-reads.Learnt,
 ) (list-at t) list.Post
-list-is-same-requires t c κs = search needs
+list-same-requires t c κs = search needs
 
 list-last-line-requires-2 : (t : ℕ) → list-lts.Need-last-line-requires-2 (
   last-line-reads.Asked,
   last-line-reads.Learnt,
-  is-same-reads.Asked,
-  is-same-reads.Learnt,
+  same-reads.Asked,
+  same-reads.Learnt,
   parent-of-reads.Asked,
   parent-of-reads.Learnt,
   fewer-reads.Asked,
@@ -112,8 +112,8 @@ list-last-line-requires-2 t c κs = (omega arith, omega arith)
 list-same-length-2 : (t : ℕ) → list-lts.Need-same-length-2 (
   last-line-reads.Asked,
   last-line-reads.Learnt,
-  is-same-reads.Asked,
-  is-same-reads.Learnt,
+  same-reads.Asked,
+  same-reads.Learnt,
   parent-of-reads.Asked,
   parent-of-reads.Learnt,
   fewer-reads.Asked,
@@ -128,8 +128,8 @@ list-same-length-2 t c = search needs
 list-returns-2 : (t : ℕ) → list-lts.Need-returns-2 (
   last-line-reads.Asked,
   last-line-reads.Learnt,
-  is-same-reads.Asked,
-  is-same-reads.Learnt,
+  same-reads.Asked,
+  same-reads.Learnt,
   parent-of-reads.Asked,
   parent-of-reads.Learnt,
   fewer-reads.Asked,
@@ -142,14 +142,14 @@ list-returns-2 : (t : ℕ) → list-lts.Need-returns-2 (
 list-returns-2 t c =
     let a = c .before .before .before .before .before .before .before .before .before .before .before .args in
     let l = c .before .before .last-line2 in
-    let e = chain-und (a .parents .now) (a .allowed) (a .variants) (a .id .now) (a .root .now) (c .before .before .before .before .before .before .before .before .before .before .before .pre .1 .2) (c .before .before .before .before .before .is-same .ensures) (c .before .before .before .before .if2 .taken) in
+    let e = chain-und (a .parents .now) (a .allowed) (a .variants) (a .id .now) (a .root .now) (c .before .before .before .before .before .before .before .before .before .before .before .pre .1 .2) (c .before .before .before .before .before .same .ensures) (c .before .before .before .before .if2 .taken) in
     (bounded-one _ _ _ _ _ _ (l .ensures .0) (l .ensures .1), λ s. lists-as e (record { listed = l .ensures .0; written = l .ensures .1 }))
 
 list-add-next : (t : ℕ) → list-lts.Need-add-next (
   last-line-reads.Asked,
   last-line-reads.Learnt,
-  is-same-reads.Asked,
-  is-same-reads.Learnt,
+  same-reads.Asked,
+  same-reads.Learnt,
   parent-of-reads.Asked,
   parent-of-reads.Learnt,
   fewer-reads.Asked,
@@ -164,8 +164,8 @@ list-add-next t c = search needs
 list-add-next-2 : (t : ℕ) → list-lts.Need-add-next-2 (
   last-line-reads.Asked,
   last-line-reads.Learnt,
-  is-same-reads.Asked,
-  is-same-reads.Learnt,
+  same-reads.Asked,
+  same-reads.Learnt,
   parent-of-reads.Asked,
   parent-of-reads.Learnt,
   fewer-reads.Asked,
@@ -180,8 +180,8 @@ list-add-next-2 t c = search needs
 list-parent-of-requires : (t : ℕ) → list-lts.Need-parent-of-requires (
   last-line-reads.Asked,
   last-line-reads.Learnt,
-  is-same-reads.Asked,
-  is-same-reads.Learnt,
+  same-reads.Asked,
+  same-reads.Learnt,
   parent-of-reads.Asked,
   parent-of-reads.Learnt,
   fewer-reads.Asked,
@@ -196,8 +196,8 @@ list-parent-of-requires t c κs = let p = c .before .before .before .before .bef
 list-fewer-requires : (t : ℕ) → list-lts.Need-fewer-requires (
   last-line-reads.Asked,
   last-line-reads.Learnt,
-  is-same-reads.Asked,
-  is-same-reads.Learnt,
+  same-reads.Asked,
+  same-reads.Learnt,
   parent-of-reads.Asked,
   parent-of-reads.Learnt,
   fewer-reads.Asked,
@@ -212,8 +212,8 @@ list-fewer-requires t c κs = search needs
 list-sub-list : (t : ℕ) → list-lts.Need-sub-list (
   last-line-reads.Asked,
   last-line-reads.Learnt,
-  is-same-reads.Asked,
-  is-same-reads.Learnt,
+  same-reads.Asked,
+  same-reads.Learnt,
   parent-of-reads.Asked,
   parent-of-reads.Learnt,
   fewer-reads.Asked,
@@ -228,8 +228,8 @@ list-sub-list t c = search needs
 list-list-requires : (t : ℕ) → list-lts.Need-list-requires (
   last-line-reads.Asked,
   last-line-reads.Learnt,
-  is-same-reads.Asked,
-  is-same-reads.Learnt,
+  same-reads.Asked,
+  same-reads.Learnt,
   parent-of-reads.Asked,
   parent-of-reads.Learnt,
   fewer-reads.Asked,
@@ -248,8 +248,8 @@ list-list-requires t c κs =
 list-add-line-requires : (t : ℕ) → list-lts.Need-add-line-requires (
   last-line-reads.Asked,
   last-line-reads.Learnt,
-  is-same-reads.Asked,
-  is-same-reads.Learnt,
+  same-reads.Asked,
+  same-reads.Learnt,
   parent-of-reads.Asked,
   parent-of-reads.Learnt,
   fewer-reads.Asked,
@@ -266,8 +266,8 @@ list-add-line-requires t c κs =
 list-same-length-3 : (t : ℕ) → list-lts.Need-same-length-3 (
   last-line-reads.Asked,
   last-line-reads.Learnt,
-  is-same-reads.Asked,
-  is-same-reads.Learnt,
+  same-reads.Asked,
+  same-reads.Learnt,
   parent-of-reads.Asked,
   parent-of-reads.Learnt,
   fewer-reads.Asked,
@@ -282,8 +282,8 @@ list-same-length-3 t c = search needs
 list-returns-3 : (t : ℕ) → list-lts.Need-returns-3 (
   last-line-reads.Asked,
   last-line-reads.Learnt,
-  is-same-reads.Asked,
-  is-same-reads.Learnt,
+  same-reads.Asked,
+  same-reads.Learnt,
   parent-of-reads.Asked,
   parent-of-reads.Learnt,
   fewer-reads.Asked,
@@ -297,7 +297,7 @@ list-returns-3 t c =
     let a = c .before .before .before .before .before .before .before .before .before .before .before .before .before .before .before .before .before .args in
     let m = c .before .before .add-line in
     let l = c .before .before .before .before .before .before .list in
-    let e = chain-more (a .parents .now) (a .allowed) (a .variants) (a .id .now) (a .root .now) (c .before .before .before .before .before .before .before .before .before .before .before .before .before .before .before .before .before .pre .1 .2) (c .before .before .before .before .before .before .before .before .before .before .before .is-same .ensures) (c .before .before .before .before .before .before .before .before .before .before .if2 .left) (c .before .before .before .before .before .before .before .before .before .before .before .before .if1 .left) in (
+    let e = chain-more (a .parents .now) (a .allowed) (a .variants) (a .id .now) (a .root .now) (c .before .before .before .before .before .before .before .before .before .before .before .before .before .before .before .before .before .pre .1 .2) (c .before .before .before .before .before .before .before .before .before .before .before .same .ensures) (c .before .before .before .before .before .before .before .before .before .before .if2 .left) (c .before .before .before .before .before .before .before .before .before .before .before .before .if1 .left) in (
       bounded-more _ _ _ (a .id .now) _ _ _ _ _ _ (c .before .before .before .before .before .before .before .before .before .before .before .before .if1 .left) refl (l .ensures .0) (m .ensures .0) (m .ensures .1),
       λ s. lists-as e (lists-more _ _ _ _ _ (a .id .now) _ _ _ refl (chain-some _ _ _ _) (rest-lists (a .parents .now) _ _ _ _ _ (l .ensures .1 s) (c .before .before .before .before .before .before .before .before .fewer .ensures) (c .before .before .before .before .before .before .before .before .before .parent-of .ensures .1 s)) (m .ensures .0) (m .ensures .1)),
     )
@@ -306,8 +306,8 @@ pub +list-spec : {M : Type 1} → statement M
 +list-spec = close μ-list λ t. list-lts.spec (
   last-line-reads.Asked,
   last-line-reads.Learnt,
-  is-same-reads.Asked,
-  is-same-reads.Learnt,
+  same-reads.Asked,
+  same-reads.Learnt,
   parent-of-reads.Asked,
   parent-of-reads.Learnt,
   fewer-reads.Asked,
@@ -322,7 +322,7 @@ pub +list-spec : {M : Type 1} → statement M
     (list-last-line-requires t)
     (list-same-length t)
     (list-returns t)
-    (list-is-same-requires t)
+    (list-same-requires t)
     (list-last-line-requires-2 t)
     (list-same-length-2 t)
     (list-returns-2 t)

@@ -1,10 +1,10 @@
 use native.Mathlib.Omega.{arith}
 use Rattle.likely.proofs.Formed.{refusal-stands, canonicalised, formed-by, fits-by, in-order, made-answer}
 use borrow.Author.Needs.{needs}
-use Rattle.likely.proofs.tested.form_tested.Statement.{statement}
-use Rattle.likely.proofs.tested.form_tested.Tie as tie
-use Rattle.likely.proofs.tested.form_tested.Reads as reads
-use Rattle.likely.proofs.tested.form_tested.Lts as lts
+use Rattle.likely.proofs.tested.form_hinted.Statement.{statement}
+use Rattle.likely.proofs.tested.form_hinted.Tie as tie
+use Rattle.likely.proofs.tested.form_hinted.Reads as reads
+use Rattle.likely.proofs.tested.form_hinted.Lts as lts
 use Rattle.canonical.proofs.form.canonical_form.Reads as canonical-form-reads
 use Rattle.likely.proofs.tested.blank.Reads as blank-reads
 use Rattle.likely.proofs.tested.from_form.Reads as from-form-reads
@@ -23,7 +23,7 @@ enum-known-c c = search needs
 
 returns : tie.Need-returns
 returns c =
-    let a = c .before .before .before .before .before .before .before .before .before .args in
+    let a = c .before .before .before .before .before .before .before .before .before .before .before .args in
     let k = c .before .before .canonical-form in
     refusal-stands (a .aliases .now) (a .likely .now) (a .id .now) (a .shorten) (k .result) _ _ (k .ensures .0) (c .match .keys2)
 
@@ -32,7 +32,7 @@ slice-aggregate-from-form c = search needs
 
 from-form-requires : tie.Need-from-form-requires
 from-form-requires c κs =
-    let a = c .before .before .before .before .before .before .before .before .before .before .before .before .before .args in
+    let a = c .before .before .before .before .before .before .before .before .before .before .before .before .before .before .before .args in
     let k = c .before .before .before .before .before .before .canonical-form in
     let g = c .before .before .before .c .given in
     let w = canonicalised (a .aliases .now) (a .id .now) _ _ (formed-by _ _ _ (g .1) (k .ensures .0)) in
@@ -45,14 +45,14 @@ same-length c = search needs
 
 returns-2 : tie.Need-returns-2
 returns-2 c =
-    let b = c .before .before .before .before .before .before .before .before .before .before .before .before .before .before .before .before in
+    let b = c .before .before .before .before .before .before .before .before .before .before .before .before .before .before .before .before .before .before in
     let k = c .before .before .before .before .before .before .before .before .before .canonical-form in
     let g = c .before .before .before .before .before .before .c .given in
     let w = canonicalised (b .args .aliases .now) (b .args .id .now) _ _ (formed-by _ _ _ (g .1) (k .ensures .0)) in
-    made-answer (b .args .aliases .now) (b .args .likely .now) (b .pre .passes) (b .pre .likely) (b .args .id .now) _ _ w (b .args .shorten) _ _ _ (c .before .before .from-form .ensures)
+    made-answer (b .args .aliases .now) (b .args .likely .now) (b .pre .0 .passes) (b .args .likely-hints .now) (record { sorted = b .pre .0 .likely; hinted = b .pre .2 }) (b .args .id .now) _ _ w (b .args .shorten) _ _ _ (c .before .before .from-form .ensures)
 
-pub form-tested-spec : {M : Type 1} → statement M
-form-tested-spec =
+pub form-hinted-spec : {M : Type 1} → statement M
+form-hinted-spec =
     tie.close
     (tie.spec
     blank-requires
