@@ -1,5 +1,6 @@
 use mathlib.Core.Path.{refl}
 use native.Mathlib.Omega.{arith}
+use Rattle.table.proofs.Hinting.{hinted-empty}
 use Rattle.likely.proofs.Formed.{canonicalised, formed-by, fits-by}
 use Rattle.parents.proofs.Chained.{chain-stands, form-bounds, chain-answer}
 use borrow.Author.Needs.{needs}
@@ -14,18 +15,26 @@ use Rattle.parents.proofs.tested.list_form.Reads as list-form-reads
 blank-requires : tie.Need-blank-requires
 blank-requires c κs = search needs
 
+array-share-prefix-none : tie.Need-array-share-prefix-none
+array-share-prefix-none c = search needs
+
 slice-aggregate-canonical-form : tie.Need-slice-aggregate-canonical-form
 slice-aggregate-canonical-form c = search needs
 
+slice-aggregate-canonical-form-2 : tie.Need-slice-aggregate-canonical-form-2
+slice-aggregate-canonical-form-2 c = search needs
+
 canonical-form-requires : tie.Need-canonical-form-requires
-canonical-form-requires c κs = search needs
+canonical-form-requires c κs =
+    let b = c .before .before .before .before .before .before .before in
+    (b .pre .aliases .passes, c .before .before .blank .ensures, hinted-empty _)
 
 enum-known-c : tie.Need-enum-known-c
 enum-known-c c = search needs
 
 returns : tie.Need-returns
 returns c =
-    let a = c .before .before .before .before .before .before .before .before .before .args in
+    let a = c .before .before .before .before .before .before .before .before .before .before .args in
     let k = c .before .before .canonical-form in
     chain-stands (a .aliases .now) (a .parents .now) (a .id .now) (k .result) _ _ (k .ensures .0) (c .match .keys2)
 
@@ -37,7 +46,7 @@ slice-aggregate-list-form-2 c = search needs
 
 list-form-requires : tie.Need-list-form-requires
 list-form-requires c κs =
-    let b = c .before .before .before .before .before .before .before .before .before .before .before .before .before .before in
+    let b = c .before .before .before .before .before .before .before .before .before .before .before .before .before .before .before in
     let k = c .before .before .before .before .before .before .before .canonical-form in
     let g = c .before .before .before .before .c .given in
     let w = canonicalised (b .args .aliases .now) (b .args .id .now) _ _ (formed-by _ _ _ (g .1) (k .ensures .0)) in
@@ -50,7 +59,7 @@ same-length c = search needs
 
 returns-2 : tie.Need-returns-2
 returns-2 c =
-    let b = c .before .before .before .before .before .before .before .before .before .before .before .before .before .before .before .before .before in
+    let b = c .before .before .before .before .before .before .before .before .before .before .before .before .before .before .before .before .before .before in
     let k = c .before .before .before .before .before .before .before .before .before .before .canonical-form in
     let g = c .before .before .before .before .before .before .before .c .given in
     let w = canonicalised (b .args .aliases .now) (b .args .id .now) _ _ (formed-by _ _ _ (g .1) (k .ensures .0)) in
@@ -61,7 +70,9 @@ chain-tested-spec =
     tie.close
     (tie.spec
     blank-requires
+    array-share-prefix-none
     slice-aggregate-canonical-form
+    slice-aggregate-canonical-form-2
     canonical-form-requires
     enum-known-c
     returns
