@@ -4,6 +4,7 @@ use mathlib.Core.Bool.{cond}
 use mathlib.Core.Option.{Option, none, some}
 use Prim.Native.Nat.{ℕ, _+_, _*_, _%_}
 use lib.Dec.{leb}
+use Rattle.standard.specs.Report.{Report}
 use Rattle.standard.specs.Table.{Found as Located, TableFault}
 
 unfoldable pub foundCode : Located → ℕ
@@ -15,3 +16,7 @@ foundCode f =
 unfoldable pub faultCode : Option TableFault → ℕ
 faultCode none = 0
 faultCode (some f) = f .fault .number + f .table * 256 + f .fault .place % 65536 * 65536
+
+-- the number and place of a report
+unfoldable pub reportCode : Report → ℕ
+reportCode r = r .number + r .place % 65536 * 65536

@@ -1,4 +1,5 @@
-// For tests only, not shipped: the lookup of one row and the check of the tables, as numbers that a test harness can call.
+// For tests and benchmarks only, not shipped: the lookup of one row, the check of the tables, reading and the operations
+// over tested tables, as numbers that a harness can call.
 ghost use mathlib.Core.Path.{_≡_};
 ghost use mathlib.Core.Bool.{true};
 ghost use Prim.Native.Nat.{_+_, _*_, _%_, _<_};
@@ -8,6 +9,9 @@ ghost use Rattle.table.specs.Search.{Sorted};
 ghost use Rattle.verdict.specs.Verdicts.{verdictIs};
 ghost use Rattle.probe.specs.Codes.{foundCode, faultCode};
 use verdict::Verdict;
+
+pub mod reads;
+pub mod repeats;
 
 // Bit 0: found; 1 to 31: where the value starts; 32 to 62: its length. All ones where these do not fit.
 #[no_mangle]
@@ -42,7 +46,7 @@ fn code_found(f: table::Found) -> u64
     start as u64 * 2 + len as u64 * 4294967296
 }
 
-fn wide(b: u8) -> u64
+pub fn wide(b: u8) -> u64
     ensures { λ r. ⌜ (r ≡ b) × (r < 256) ⌝ }
 {
     b as u64

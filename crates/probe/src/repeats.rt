@@ -1,0 +1,72 @@
+// For benchmarks: an exported operation once and then so many times more over the tables that it tested, on the same
+// identifier and output. The answer is that of one call.
+use canonical::canonicalise_tested;
+use canonical::delivery::refused_table;
+use likely::tested::form_tested;
+use parents::tested::chain_tested;
+use store::pack;
+use verdict::Verdict;
+ghost use mathlib.Core.Path.{_≡_};
+ghost use mathlib.Core.Option.{none};
+ghost use Rattle.standard.specs.Delivery.{given};
+ghost use Rattle.verdict.specs.Verdicts.{verdictIs};
+ghost use Rattle.store.specs.Packed.{unpacked};
+ghost use Rattle.probe.specs.Exported.{checkFor, madeFor};
+
+// The check of the tables that the operation uses.
+fn check_for(operation: u8, aliases: &[u8], other: &[u8]) -> Verdict
+    ensures { λ r. ⌜ verdictIs r ≡ checkFor operation (now (aliases .entry)) (now (other .entry)) ⌝ }
+{
+    if operation == 0 {
+        return verdict::check_aliases(aliases);
+    }
+    if operation == 1 {
+        return verdict::check_likely(aliases, other);
+    }
+    if operation == 2 {
+        return verdict::check_likely(aliases, other);
+    }
+    verdict::check_parents(aliases, other)
+}
+
+// The operation over tables that passed.
+fn once(operation: u8, id: &[u8], aliases: &[u8], other: &[u8], out: &mut [u8]) -> u64
+    requires { ⌜ checkFor operation (now aliases) (now other) ≡ none ⌝ }
+    ensures { λ r. ⌜ unpacked r (now (out .exit)) ≡ given (madeFor operation (now (aliases .entry)) (now (other .entry)) (now (id .entry))) (now (out .entry)) ⌝ }
+{
+    if operation == 0 {
+        return pack(canonicalise_tested(id, aliases, out));
+    }
+    if operation == 1 {
+        return pack(likely::whole::answer(form_tested(false, id, aliases, other, out)));
+    }
+    if operation == 2 {
+        return pack(likely::whole::answer(form_tested(true, id, aliases, other, out)));
+    }
+    pack(parents::whole::answer(chain_tested(id, aliases, other, out)))
+}
+
+// Tests the tables, then does the operation once and so many times more.
+#[no_mangle]
+pub extern "C" fn probe_repeat(
+    operation: u8,
+    id: &[u8],
+    aliases: &[u8],
+    other: &[u8],
+    out: &mut [u8],
+    times: u32,
+) -> u64
+    ensures { λ r. ⌜ unpacked r (now (out .exit)) ≡ given (madeFor operation (now (aliases .entry)) (now (other .entry)) (now (id .entry))) (now (out .entry)) ⌝ }
+{
+    let v = check_for(operation, aliases, other);
+    let Verdict::Good = v else {
+        return pack(refused_table(v));
+    };
+    let mut r = once(operation, id, aliases, other, out);
+    let mut k: u32 = 0;
+    while k < times {
+        r = once(operation, id, aliases, other, out);
+        k += 1;
+    }
+    r
+}
