@@ -26,8 +26,8 @@ use Rattle.standard.proofs.Lines.{Plain, plain-printable}
 use Rattle.standard.proofs.Demand.{printable-of}
 use Rattle.standard.proofs.Table.{passed, good-tables, shaped-tables}
 use Rattle.standard.proofs.Whole.{narrow-parents}
-use Rattle.likely.specs.Parts.{valueOr}
-use Rattle.likely.proofs.Lookups.{value-located}
+use Rattle.table.specs.Lines.{valueOr}
+use Rattle.table.proofs.Lines.{value-located}
 use Rattle.parents.specs.Texts.{withoutLast, lastDash, parentBy, rowText, parentText, chainText}
 use Rattle.parents.proofs.Laws.{chain-text}
 use Rattle.parents.proofs.Writing.{part-le, cut-le}
