@@ -2,6 +2,10 @@
 """Draws the benchmark's identifiers from the tables: the same 2,000 each time.
 
     identifiers.py > identifiers.txt
+    identifiers.py --long > long.txt
+
+The long ones fill 255 bytes with one kind of subtag, each with its kind and a tab
+in front: the slowest of them stands for the worst.
 
 Languages, scripts and regions go together as in CLDR's likely subtags and in the
 locales that have a row among the parents; languages of two letters come four
@@ -9,6 +13,7 @@ times as often as the others. A quarter of the identifiers has underscores, one 
 twenty is all in lower case.
 """
 
+import sys
 from pathlib import Path
 
 TABLES = Path(__file__).resolve().parent.parent / "tables"
@@ -114,5 +119,50 @@ def identifiers():
     return found
 
 
+def filled(front, parts):
+    """As many of the parts as fit into 255 bytes."""
+    text = front
+    for part in parts:
+        if len(text) + 1 + len(part) > 255:
+            break
+        text += "-" + part
+    return text
+
+
+def long_identifiers():
+    """Kind and identifier; heads in falling order, which is the farthest from the canonical one."""
+    letters = "abcdefghijklmnopqrstuvwxyz"
+    falling = letters[::-1]
+    two = [a + b for a in falling for b in falling]
+    singletons = [s for s in falling + "9876543210" if s not in "tux"]
+    variants = [digit + a + "zz" for digit in "987654321" for a in falling]
+    fields = [a + digit + "-aaa" for digit in "9876543210" for a in falling]
+    return {
+        "variants": filled("en", variants),
+        "variants of 8": filled("en", [f"variab{a}" for a in two]),
+        "u attributes": filled("en-u", [a + "z" for a in two]),
+        "u attributes, rising": filled("en-u", sorted(a + "z" for a in two)),
+        "u keywords": filled("en-u", two),
+        "u keywords, one key": filled("en-u", ["ca"] * 90),
+        "u keywords, true": filled("en-u", [a + "-true" for a in two]),
+        "u attributes and keywords": filled(filled("en-u", [a + "z" for a in two[:31]]), two),
+        "t variants": filled("en-t-en", variants),
+        "t fields": filled("en-t", fields),
+        "t variants and fields": filled(filled("en-t-en", variants[:25]), fields),
+        "extensions": filled("en", [f"{s}-ab-cd" for s in singletons]) + "-x-a",
+        "extensions, variants, attributes": filled(
+            filled("en", variants[:10]) + "-" + "-".join(f"{s}-ab" for s in singletons[:10]) + "-u", [a + "z" for a in two]
+        ),
+        "private use": filled("en-x", ["a"] * 130),
+        "private use of 8": filled("en-x", ["abcdefgh"] * 30),
+        "script and region first": filled("Latn-US", variants),
+        "old codes and variants": filled("sh-Qaai-BU", variants),
+        "root": filled("root-u", [a + "z" for a in two]),
+    }
+
+
 if __name__ == "__main__":
-    print(*identifiers(), sep="\n")
+    if "--long" in sys.argv[1:]:
+        print(*(f"{kind}\t{text}" for kind, text in long_identifiers().items()), sep="\n")
+    else:
+        print(*identifiers(), sep="\n")

@@ -1,73 +1,135 @@
-/* Our side of the benchmark: the lookup of a row in a tested table and the check of the tables, called from C.
- * Prints lines of an operation, a tab and nanoseconds per call. Run in the repository's folder; the argument, the file
- * of identifiers, is not used yet. */
-#include <stdint.h>
-#include <stdio.h>
-#include <stdlib.h>
-#include <string.h>
-#include <time.h>
+/* Our side of the benchmark, over tested tables: lookup, check, reading and the four operations, called from C.
+ * Prints lines of a row's name, a tab and nanoseconds. Run in the repository's folder; the argument is the file of
+ * identifiers. */
+#include "measure.h"
 
 uint64_t probe_lookup(const uint8_t *t, size_t t_len, const uint8_t *key, size_t key_len);
 uint64_t probe_sorted(const uint8_t *t, size_t t_len, const uint8_t *key, size_t key_len);
 uint64_t probe_check(const uint8_t *a, size_t a_len, const uint8_t *l, size_t l_len, const uint8_t *p, size_t p_len);
+/* Reads once, and so many times more. */
+uint64_t probe_read(const uint8_t *id, size_t id_len, uint32_t times);
+/* Tests the tables, then does the operation once, and so many times more. */
+uint64_t probe_repeat(uint8_t operation, const uint8_t *id, size_t id_len, const uint8_t *a, size_t a_len,
+                      const uint8_t *other, size_t other_len, uint8_t *out, size_t out_len, uint32_t times);
 
-enum { ROOM = 1 << 17, KEYS = 4096 };
-typedef struct { uint8_t bytes[ROOM]; size_t len; } table;
-static table aliases, likely, parents, fewer;
-static struct { const uint8_t *at; size_t len; } keys[KEYS];
-static size_t key_count;
-static volatile uint64_t sink;
+enum { CANONICALISE, MAXIMISE, MINIMISE, CHAIN };
 
-static void load(const char *name, table *t) {
-    FILE *f = fopen(name, "rb");
-    if (!f) { perror(name); exit(1); }
-    t->len = fread(t->bytes, 1, ROOM, f);
-    fclose(f);
+static file identifiers, longest;
+static text keys[LINES], ids[LINES], long_ids[LINES], asked;
+static size_t key_count, id_count, long_count;
+
+/* ---- lookup and check ---- */
+
+static void by_halves(void) {
+    for (size_t k = 0; k < key_count; k++) sink += probe_sorted(FILE_OF(likely), TEXT_OF(keys[k]));
 }
 
-static double now(void) {
-    struct timespec t;
-    clock_gettime(CLOCK_PROCESS_CPUTIME_ID, &t);
-    return t.tv_sec * 1e9 + t.tv_nsec;
+static void by_lines(void) {
+    for (size_t k = 0; k < key_count; k++) sink += probe_lookup(FILE_OF(likely), TEXT_OF(keys[k]));
 }
 
-static void lookups(uint64_t (*find)(const uint8_t *, size_t, const uint8_t *, size_t)) {
-    for (size_t k = 0; k < key_count; k++) sink += find(likely.bytes, likely.len, keys[k].at, keys[k].len);
-}
+static void check(void) { sink += probe_check(FILE_OF(aliases), FILE_OF(likely), FILE_OF(parents)); }
 
-static void by_halves(void) { lookups(probe_sorted); }
-static void by_lines(void) { lookups(probe_lookup); }
-static void whole(void) { sink += probe_check(aliases.bytes, aliases.len, likely.bytes, likely.len, parents.bytes, parents.len); }
-static void half(void) { sink += probe_check(aliases.bytes, aliases.len, fewer.bytes, fewer.len, parents.bytes, parents.len); }
+static file grown[3];
+static void check_grown(void) { sink += probe_check(FILE_OF(grown[0]), FILE_OF(grown[1]), FILE_OF(grown[2])); }
 
-/* The best of five measures of about 0.3 s. */
-static void measure(const char *name, void (*run)(void), size_t calls) {
-    double best = 1e18;
-    for (int m = 0; m < 5; m++) {
-        size_t rounds = 0;
-        double start = now(), end = start;
-        while (end - start < 3e8) { run(); rounds++; end = now(); }
-        if ((end - start) / rounds / calls < best) best = (end - start) / rounds / calls;
+/* Three good tables with so many rows each; 2,000 is near what a table may have. */
+static void grow(int rows) {
+    grown[0].len = grown[1].len = grown[2].len = 0;
+    for (int n = 0; n < rows; n++) {
+        char a = 'a' + n / 676, b = 'a' + n / 26 % 26, c = 'a' + n % 26;
+        const char *shapes[3] = {"language\t%c%c%c\tzz\n", "%c%c%c\tzz-Latn-US\n", "%c%c%c-US\tzz\n"};
+        for (int t = 0; t < 3; t++) {
+            grown[t].len += sprintf((char *)grown[t].bytes + grown[t].len, shapes[t], a, b, c);
+        }
     }
-    printf("%s\t%.0f\n", name, best);
+    need("the grown tables do not pass", probe_check(FILE_OF(grown[0]), FILE_OF(grown[1]), FILE_OF(grown[2])) == 0);
 }
 
-int main(void) {
-    load("tables/aliases.tsv", &aliases);
-    load("tables/likely.tsv", &likely);
-    load("tables/parents.tsv", &parents);
-    for (size_t i = 0; i < likely.len; i++) {
-        const uint8_t *row = likely.bytes + i, *tab = memchr(row, 9, likely.len - i);
-        keys[key_count].at = row;
-        keys[key_count++].len = tab - row;
-        if (key_count == 621) { fewer.len = (const uint8_t *)memchr(tab, 10, likely.len) + 1 - likely.bytes; }
-        i = (const uint8_t *)memchr(row, 10, likely.len - i) - likely.bytes;
+/* ---- reading and the operations ---- */
+
+/* One call a reading: no compiler can take these out of the loop. */
+static void read_asked(void) {
+    for (int k = 0; k < 1000; k++) sink += probe_read(TEXT_OF(asked), 0);
+}
+
+static double reading(text id) {
+    asked = id;
+    return best(read_asked) / 1000;
+}
+
+/* The best of five passes over the identifiers, each so many times. */
+static double passes(uint8_t operation, const text *of, size_t count, uint32_t times) {
+    const file *other = operation == CHAIN ? &parents : &likely;
+    double least = 1e18;
+    for (int m = 0; m < MEASURES; m++) {
+        double start = now();
+        for (size_t k = 0; k < count; k++) {
+            sink += probe_repeat(operation, TEXT_OF(of[k]), FILE_OF(aliases), FILE_OF(*other), out, sizeof out, times);
+        }
+        if (now() - start < least) least = now() - start;
     }
-    memcpy(fewer.bytes, likely.bytes, fewer.len);
-    if (whole(), sink != 0) { fprintf(stderr, "the tables do not pass\n"); return 1; }
-    measure("lookup", by_halves, key_count);
-    measure("lookup by lines", by_lines, key_count);
-    measure("check", whole, 1);
-    measure("check, half", half, 1);
+    return least;
+}
+
+/* Nanoseconds of one operation: the difference of two numbers of times takes the test of the tables away. */
+static double operating(uint8_t operation, const text *of, size_t count, uint32_t times) {
+    return (passes(operation, of, count, times) - passes(operation, of, count, 0)) / times / count;
+}
+
+static double one(uint8_t operation, const char *id) {
+    text t = text_of(id);
+    return operating(operation, &t, 1, 20000);
+}
+
+static double all(uint8_t operation) { return operating(operation, ids, id_count, 200); }
+
+static double canonicalising(text id) { return operating(CANONICALISE, &id, 1, 2000); }
+
+/* The slowest of the long identifiers, with its kind in the row's name. */
+static void say_worst(const char *name, double (*measure)(text)) {
+    double worst = 0;
+    text kind = {0};
+    for (size_t k = 0; k < long_count; k++) {
+        const uint8_t *tab = memchr(long_ids[k].at, '\t', long_ids[k].len);
+        double taken = measure((text){tab + 1, long_ids[k].at + long_ids[k].len - tab - 1});
+        if (taken > worst) { worst = taken; kind = (text){long_ids[k].at, tab - long_ids[k].at}; }
+    }
+    fprintf(stderr, "%s: the slowest of %zu kinds: %.*s\n", name, long_count, (int)kind.len, kind.at);
+    say(name, worst);
+}
+
+int main(int argc, char **argv) {
+    need("usage: ours FILE", argc == 2);
+    load_tables();
+    load(argv[1], &identifiers);
+    load("bench/long.txt", &longest);
+    id_count = lines_of(&identifiers, ids);
+    long_count = lines_of(&longest, long_ids);
+    key_count = lines_of(&likely, keys);
+    for (size_t k = 0; k < key_count; k++) keys[k].len = (const uint8_t *)memchr(keys[k].at, '\t', keys[k].len) - keys[k].at;
+    need("the tables do not pass", probe_check(FILE_OF(aliases), FILE_OF(likely), FILE_OF(parents)) == 0);
+
+    say("lookup", best(by_halves) / key_count);
+    say("lookup by lines", best(by_lines) / key_count);
+    say("check", best(check));
+    for (int rows = 250; rows <= 2000; rows *= 2) {
+        char name[32];
+        snprintf(name, sizeof name, "check, %d rows each", rows);
+        grow(rows);
+        say(name, best(check_grown));
+    }
+    say("read en-Latn-US", reading(text_of("en-Latn-US")));
+    say_worst("read, worst", reading);
+    say("canonicalise iw_IL", one(CANONICALISE, "iw_IL"));
+    say("canonicalise en-US-u-KN-true-ca-gregory", one(CANONICALISE, "en-US-u-KN-true-ca-gregory"));
+    say_worst("canonicalise, worst", canonicalising);
+    say("maximise en-AU", one(MAXIMISE, "en-AU"));
+    say("minimise en-AU", one(MINIMISE, "en-AU"));
+    say("chain en-AU", one(CHAIN, "en-AU"));
+    say("canonicalise", all(CANONICALISE));
+    say("maximise", all(MAXIMISE));
+    say("minimise", all(MINIMISE));
+    say("chain", all(CHAIN));
     return 0;
 }

@@ -1,7 +1,8 @@
 // ICU as a peer of the benchmark: nanoseconds per identifier for canonicalising,
 // maximising and minimising, from the bytes of the identifier to the bytes of the
 // result. Takes a file with one identifier a line; `--print` prints the three
-// results of each identifier instead of measuring.
+// results of each identifier instead of measuring. `--keys` reads identifiers from
+// standard input and prints each with its minimised form, as `keys` does.
 //
 // `Locale::createCanonical` corresponds to reading and canonicalising: it takes both
 // separators, applies CLDR's aliases and keeps extensions. `Locale::forLanguageTag`
@@ -118,6 +119,23 @@ void print(const std::vector<std::string> &identifiers) {
     }
 }
 
+// Lines of any number, with large reads and writes.
+void keys() {
+    static char in[1 << 16], written[1 << 16], line[1024];
+    std::setvbuf(stdin, in, _IOFBF, sizeof in);
+    std::setvbuf(stdout, written, _IOFBF, sizeof written);
+    std::fputs("asked\tkept\n", stdout);
+    while (std::fgets(line, sizeof line, stdin)) {
+        line[std::strcspn(line, "\n")] = 0;
+        char out[512];
+        int32_t length = made<Operation::minimise>(line, out, sizeof out);
+        std::fputs(line, stdout);
+        std::fputc('\t', stdout);
+        std::fwrite(length ? out : "-", 1, length ? length : 1, stdout);
+        std::fputc('\n', stdout);
+    }
+}
+
 void say_versions() {
     UVersionInfo version;
     char cldr[U_MAX_VERSION_STRING_LENGTH];
@@ -130,9 +148,13 @@ void say_versions() {
 } // namespace
 
 int main(int argc, char **argv) {
+    if (argc == 2 && std::strcmp(argv[1], "--keys") == 0) {
+        keys();
+        return 0;
+    }
     bool printing = argc == 3 && std::strcmp(argv[1], "--print") == 0;
     if (argc != 2 && !printing) {
-        std::fprintf(stderr, "usage: peer_icu [--print] FILE\n");
+        std::fprintf(stderr, "usage: peer_icu [--print] FILE | --keys\n");
         return 1;
     }
     std::vector<std::string> identifiers = lines_of(argv[argc - 1]);

@@ -1,8 +1,10 @@
-//! Links the proved functions that are exported for tests.
+//! Links the proved functions: those exported for tests and the four of the store, each to its own binary.
 
 fn main() {
     let root = std::env::var("CARGO_MANIFEST_DIR").unwrap();
-    println!("cargo:rustc-link-search=native={root}/../../target/staticlib");
-    println!("cargo:rustc-link-lib=static=probe");
-    println!("cargo:rerun-if-changed=../../target/staticlib/libprobe.a");
+    for (binary, library) in [("compare", "probe"), ("calls", "store")] {
+        let path = format!("{root}/../../target/staticlib/lib{library}.a");
+        println!("cargo:rustc-link-arg-bin={binary}={path}");
+        println!("cargo:rerun-if-changed={path}");
+    }
 }

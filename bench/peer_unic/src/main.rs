@@ -2,10 +2,12 @@
 //! and printing, with maximising or minimising between them. Takes a file with one
 //! identifier a line; `--print` prints the three results of each instead of
 //! measuring. Identifiers that it refuses (those with extensions) aren't measured;
-//! how many there are is said on standard error.
+//! how many there are is said on standard error. `--keys` reads identifiers from
+//! standard input and prints each with its minimised form, as `keys` does.
 
 use std::fmt::Write;
 use std::hint::black_box;
+use std::io::{BufRead, Write as _};
 use std::process::ExitCode;
 use std::time::Instant;
 use unic_langid::LanguageIdentifier;
@@ -72,6 +74,24 @@ fn print(identifiers: &[&[u8]]) {
     }
 }
 
+/// Lines of any number, with large reads and writes; `-` where one is refused.
+fn keys() -> std::io::Result<()> {
+    let mut input = std::io::BufReader::with_capacity(1 << 16, std::io::stdin().lock());
+    let mut output = std::io::BufWriter::with_capacity(1 << 16, std::io::stdout().lock());
+    let (mut line, mut kept) = (Vec::new(), String::with_capacity(512));
+    output.write_all(b"asked\tkept\n")?;
+    while input.read_until(b'\n', &mut line)? > 0 {
+        let asked = line.strip_suffix(b"\n").unwrap_or(&line);
+        let made = make(asked, OPERATIONS[2].1, &mut kept);
+        output.write_all(asked)?;
+        output.write_all(b"\t")?;
+        output.write_all(if made { kept.as_bytes() } else { b"-" })?;
+        output.write_all(b"\n")?;
+        line.clear();
+    }
+    output.flush()
+}
+
 fn measure(identifiers: &[&[u8]]) {
     let accepts = |id: &&&[u8]| LanguageIdentifier::from_bytes(id).is_ok();
     let accepted: Vec<&[u8]> = identifiers.iter().filter(accepts).copied().collect();
@@ -89,10 +109,11 @@ fn main() -> ExitCode {
     let arguments: Vec<String> = std::env::args().skip(1).collect();
     let arguments: Vec<&str> = arguments.iter().map(String::as_str).collect();
     let (run, path): (fn(&[&[u8]]), &str) = match arguments[..] {
+        ["--keys"] => return if keys().is_ok() { ExitCode::SUCCESS } else { ExitCode::FAILURE },
         ["--print", path] => (print, path),
         [path] => (measure, path),
         _ => {
-            eprintln!("usage: peer_unic [--print] FILE");
+            eprintln!("usage: peer_unic [--print] FILE | --keys");
             return ExitCode::FAILURE;
         }
     };

@@ -1,35 +1,11 @@
 //! Holds the proved functions against the second program on many inputs. Seeded, bounded, repeatable; the last line is
 //! `N passed, M failed`.
 
+mod files;
 mod probe;
 
+use compare::Tally;
 use second::gen::{self, Rng};
-use std::collections::BTreeMap;
-use std::io::Write;
-
-/// What was compared, and what differed.
-#[derive(Default)]
-struct Tally {
-    passed: usize,
-    failed: usize,
-    numbers: BTreeMap<u8, usize>,
-}
-
-impl Tally {
-    fn note<T: PartialEq + std::fmt::Debug>(&mut self, what: &str, ours: T, theirs: T, input: &[&[u8]]) {
-        if ours == theirs {
-            self.passed += 1;
-            return;
-        }
-        self.failed += 1;
-        if self.failed <= 10 {
-            println!("{what}: ours {ours:?}, second {theirs:?}");
-            for part in input {
-                println!("  {}", String::from_utf8_lossy(part).escape_debug());
-            }
-        }
-    }
-}
 
 /// A key: one that a row has, a part of one, another table's, or any bytes.
 fn key(rng: &mut Rng, table: &[u8]) -> Vec<u8> {
@@ -49,7 +25,8 @@ fn key(rng: &mut Rng, table: &[u8]) -> Vec<u8> {
 
 /// Tables that no generator makes: lengths at the limit, no 0A, only 0A, tabs, high bytes.
 fn odd_tables(rng: &mut Rng) -> Vec<Vec<u8>> {
-    let mut tables = vec![Vec::new(), vec![10], vec![9], vec![0xFF], vec![10; 40], vec![9; 40], b"en\ten-Latn-US".to_vec()];
+    let mut tables =
+        vec![Vec::new(), vec![10], vec![9], vec![0xFF], vec![10; 40], vec![9; 40], b"en\ten-Latn-US".to_vec()];
     for n in [32767, 32768, 32769, 32770] {
         tables.push(vec![b'a'; n]);
         tables.push(vec![10; n]);
@@ -106,53 +83,11 @@ fn compare_tables(rounds: usize) -> Tally {
     tally
 }
 
-/// Identifiers for the programs, one a line: all strings up to 5 telling bytes, random ones, and every change of one
-/// byte of valid ones.
-fn print_identifiers() {
-    let mut out = std::io::BufWriter::new(std::io::stdout().lock());
-    let mut put = |id: &[u8]| {
-        if !id.contains(&10) {
-            out.write_all(id).and_then(|_| out.write_all(b"\n")).expect("written");
-        }
-    };
-    let bytes = b"aZ1-_utx@";
-    for len in 0..=5u32 {
-        for n in 0..bytes.len().pow(len) {
-            put(&(0..len).map(|k| bytes[n / bytes.len().pow(k) % bytes.len()]).collect::<Vec<u8>>());
-        }
-    }
-    let mut rng = Rng::new(20_261_116);
-    for _ in 0..1_000_000 {
-        put(&gen::identifier(&mut rng));
-    }
-    let mut changed = 0;
-    while changed < 200 {
-        let id = gen::identifier(&mut rng);
-        if id.len() > 30 || second::read(&id).number != 0 {
-            continue;
-        }
-        changed += 1;
-        for i in 0..id.len() {
-            for b in 0..=255 {
-                let mut other = id.clone();
-                other[i] = b;
-                put(&other);
-            }
-        }
-    }
-}
-
 fn main() {
-    if std::env::args().nth(1).as_deref() == Some("identifiers") {
-        print_identifiers();
-        return;
+    let arguments: Vec<String> = std::env::args().skip(1).collect();
+    match &arguments.iter().map(String::as_str).collect::<Vec<_>>()[..] {
+        ["identifiers"] => files::print_identifiers(),
+        ["folders", into] => files::write_folders(into, 300).expect("written"),
+        _ => compare_tables(100_000).end(&[0, 12, 13, 14]),
     }
-    let rounds = std::env::args().nth(1).map_or(100_000, |n| n.parse().expect("rounds"));
-    let tables = compare_tables(rounds);
-    println!("numbers of the check: {:?}", tables.numbers);
-    for number in [0, 12, 13, 14] {
-        assert!(tables.numbers.contains_key(&number), "number {number} never occurred");
-    }
-    println!("{} passed, {} failed", tables.passed, tables.failed);
-    std::process::exit((tables.failed != 0) as i32);
 }

@@ -1,4 +1,4 @@
-//! The command: answers cases from standard input, or runs `keys DIR`,
+//! The command: answers cases from standard input, or runs `keys [DIR]`,
 //! `inspect` or `examples`.
 
 use second::keys::or_dash;
@@ -11,10 +11,11 @@ fn main() -> ExitCode {
     let arguments: Vec<&str> = arguments.iter().map(String::as_str).collect();
     let done = match arguments[..] {
         [] => cases(),
+        ["keys"] => run_keys("."),
         ["keys", folder] => run_keys(folder),
         ["inspect"] => run_inspect(),
         ["examples"] => run_examples(),
-        _ => Err("usage: second [keys DIR | inspect | examples]".to_string()),
+        _ => Err("usage: second [keys [DIR] | inspect | examples]".to_string()),
     };
     match done {
         Ok(()) => ExitCode::SUCCESS,
