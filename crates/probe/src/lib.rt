@@ -3,9 +3,11 @@
 ghost use mathlib.Core.Path.{_≡_};
 ghost use mathlib.Core.Bool.{true};
 ghost use Prim.Native.Nat.{_+_, _*_, _%_, _<_};
+ghost use lib.ListN.{length};
 ghost use Rattle.standard.specs.Table.{located, check as checkOf};
 ghost use Rattle.table.specs.Lines.{foundIs};
 ghost use Rattle.table.specs.Search.{Sorted};
+ghost use Rattle.table.specs.Hints.{Hinted, Indexed};
 ghost use Rattle.verdict.specs.Verdicts.{verdictIs};
 ghost use Rattle.probe.specs.Codes.{foundCode, faultCode};
 use verdict::Verdict;
@@ -27,6 +29,24 @@ pub extern "C" fn probe_sorted(t: &[u8], key: &[u8]) -> u64
     ensures { λ r. ⌜ (Sorted (now (t .entry)) → r ≡ foundCode (located (now (t .entry)) (now (key .entry)))) ⌝ }
 {
     code_found(table::find_sorted(t, key))
+}
+
+// Makes the hints of a table, if there is room for all of them.
+#[no_mangle]
+pub extern "C" fn probe_fill(t: &[u8], hints: &mut [u16])
+    ensures { λ _. ⌜ (length (now (hints .entry)) ≡ 16384 → Hinted (now (t .entry)) (now (hints .exit))) ⌝ }
+{
+    if hints.len() == 16384 {
+        table::hints::fill_hints(t, hints);
+    }
+}
+
+// The lookup by hints, of a sorted table.
+#[no_mangle]
+pub extern "C" fn probe_hinted(t: &[u8], hints: &[u16], key: &[u8]) -> u64
+    ensures { λ r. ⌜ (Indexed (now (t .entry)) (now (hints .entry)) → r ≡ foundCode (located (now (t .entry)) (now (key .entry)))) ⌝ }
+{
+    code_found(table::hints::find_hinted(t, hints, key))
 }
 
 fn code_found(f: table::Found) -> u64

@@ -13,7 +13,7 @@ use Rattle.table.specs.Search.{Opens, Sorted}
 
 -- the slot of a key: its bytes' mix, from the front, so that a key's slot goes on from that of its beginning
 unfoldable pub slotStep : ℕ → ℕ → ℕ
-slotStep h b = (h * 59 + b) % 8192
+slotStep h b = (h * 33 + b) % 16384
 
 unfoldable pub slotFrom : ℕ → List ℕ → ℕ
 slotFrom h [] = h

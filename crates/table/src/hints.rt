@@ -14,16 +14,16 @@ ghost use Rattle.table.specs.Hints.{slotStep, slotFrom, OpensIs, Seen, L
 
 // The slot of the bytes before and one more.
 fn step(h: usize, b: u8) -> usize
-    requires { ⌜ h < 8192 ⌝ }
-    ensures { λ r. ⌜ (r ≡ slotStep h b) × (r < 8192) ⌝ }
+    requires { ⌜ h < 16384 ⌝ }
+    ensures { λ r. ⌜ (r ≡ slotStep h b) × (r < 16384) ⌝ }
 {
-    (h * 59 + b as usize) % 8192
+    (h * 33 + b as usize) % 16384
 }
 
 // The slot of a key whose beginning has the slot h.
 pub fn slot_from(h: usize, key: &[u8]) -> usize
-    requires { ⌜ h < 8192 ⌝ }
-    ensures { λ r. ⌜ (r ≡ slotFrom h (now (key .entry))) × (r < 8192) ⌝ }
+    requires { ⌜ h < 16384 ⌝ }
+    ensures { λ r. ⌜ (r ≡ slotFrom h (now (key .entry))) × (r < 16384) ⌝ }
 {
     let mut slot = h;
     let mut i = 0;
@@ -72,8 +72,8 @@ fn start_past(start: usize, b: u8, next: usize) -> usize
 
 // The slot of the line's bytes before the next one.
 fn slot_past(slot: usize, b: u8) -> usize
-    requires { ⌜ slot < 8192 ⌝ }
-    ensures { λ r. ⌜ (r ≡ slotPast slot b) × (r < 8192) ⌝ }
+    requires { ⌜ slot < 16384 ⌝ }
+    ensures { λ r. ⌜ (r ≡ slotPast slot b) × (r < 16384) ⌝ }
 {
     if b == 10 {
         return 0;
@@ -94,8 +94,8 @@ fn clear(hints: &mut [u16])
 
 // Makes the hints of a table. A key may hold tabs, so every tab of a line ends a key.
 pub fn fill_hints(t: &[u8], hints: &mut [u16])
-    requires { ⌜ length (now hints) ≡ 8192 ⌝ }
-    ensures { λ _. ⌜ (length (now (hints .exit)) ≡ 8192) × Hinted (now (t .entry)) (now (hints .exit)) ⌝ }
+    requires { ⌜ length (now hints) ≡ 16384 ⌝ }
+    ensures { λ _. ⌜ (length (now (hints .exit)) ≡ 16384) × Hinted (now (t .entry)) (now (hints .exit)) ⌝ }
 {
     clear(hints);
     let mut start = 0;

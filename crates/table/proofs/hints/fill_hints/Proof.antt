@@ -9,7 +9,7 @@ use Rattle.table.proofs.hints.fill_hints.Statement.{statement}
 use Rattle.table.proofs.hints.fill_hints.Tie as tie
 
 abbrev Inv-loop : tie.InvT-loop
-Inv-loop t hints₀ start₀ slot₀ i₀ hints start slot i = (length hints ≡ 8192) × (slot < 8192) × Filled t hints start slot i
+Inv-loop t hints₀ start₀ slot₀ i₀ hints start slot i = (length hints ≡ 16384) × (slot < 16384) × Filled t hints start slot i
 
 abbrev μ-loop : tie.MeasureT-loop
 μ-loop t hints₀ start₀ slot₀ i₀ hints start slot i = length t - i

@@ -9,7 +9,7 @@ use borrow.Author.Needs.{needs}
 use Rattle.table.proofs.hints.slot_from.Tie as tie
 
 abbrev Inv-loop : tie.InvT-loop
-Inv-loop h key slot₀ i₀ slot i = (slot < 8192) × (slotFrom h key ≡ slotFrom slot (drop i key))
+Inv-loop h key slot₀ i₀ slot i = (slot < 16384) × (slotFrom h key ≡ slotFrom slot (drop i key))
 
 abbrev μ-loop : tie.MeasureT-loop
 μ-loop h key slot₀ i₀ slot i = length key - i
