@@ -15,7 +15,7 @@ use Rattle.standard.specs.Tag.{Tag, same, label}
 use Rattle.standard.specs.Identifier.{und, complete, sameThree, withoutUnknown}
 use Rattle.standard.specs.Reading.{fault}
 use Rattle.standard.specs.Chain.{line}
-use Rattle.standard.specs.Table.{pieces, rows, parse, isThree, tablesOf, likelyShape, parentShape, likelyFree, parentFree, clashFault}
+use Rattle.standard.specs.Table.{pieces, parse, isThree, tablesOf, likelyShape, parentShape, likelyFree, parentFree, clashFault}
 use Rattle.standard.proofs.Tags.{All}
 use Rattle.standard.proofs.Table.{Pass}
 use Rattle.standard.proofs.Bytes.{bool-cases, clash, and-true}

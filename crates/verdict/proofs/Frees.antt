@@ -5,7 +5,7 @@ use mathlib.Core.Bool.{Bool, true, false, not, _&&_}
 use mathlib.Core.Logic.{_⊎_, inl, inr, ⊎-elim}
 use mathlib.Core.List.{List, [], _∷_, _++_, head-eq-of-cons-eq, tail-eq-of-cons-eq}
 use mathlib.Core.Option.{Option, none, some}
-use Prim.Native.Nat.{ℕ, zero, suc, _+_, _-_, _≤_, _<_}
+use Prim.Native.Nat.{ℕ, _+_, _-_, _≤_, _<_}
 use native.Mathlib.Omega.{arith}
 use lib.ListN.{length, take, drop, length-drop}
 use lib.Seq.{take-all}
@@ -13,7 +13,7 @@ use Rattle.standard.specs.Tag.{Tag, order, same}
 use Rattle.standard.specs.Grammar.{isLanguage}
 use Rattle.standard.specs.Identifier.{Three as Subtags, three, und}
 use Rattle.standard.specs.Table.{Found as Located, pieces, lookup, rows, located, parse, isThree, isUnd, languageKey, scriptKey, regionKey, variantKey, parsed, tablesOf, isVariantTag, aliasShape, isNone, unaliased, aliasFree}
-use Rattle.standard.proofs.Tags.{All, same-eq}
+use Rattle.standard.proofs.Tags.{same-eq}
 use Rattle.standard.proofs.Bytes.{bool-cases, clash, and-true}
 use Rattle.table.specs.Lines.{endOf, valueIf}
 use Rattle.table.proofs.Lines.{ends, lookup-located}
@@ -23,12 +23,12 @@ use Rattle.rows.specs.declared.AliasKind.the-variants.{Language, Script, Region
 use Rattle.rows.specs.Shapes.{isScript, isRegion, between, others, ThreeAt}
 use Rattle.rows.specs.Rows.{languageName, scriptName, regionName, variantName, kindNamed, languageAlias, shapeBy}
 use Rattle.rows.proofs.Tags.{language-long, script-length, region-sizes, variant-long}
-use Rattle.rows.proofs.Pieces.{Free, pieces-first, others-at, others-none, pieces-free, all-from}
+use Rattle.rows.proofs.Pieces.{pieces-first, others-at, others-none, all-from}
 use Rattle.rows.proofs.Threes.{ThreeOk, three-ok, parse-pieces}
 use Rattle.rows.proofs.Judges.{alias-by}
 use Rattle.subtag.proofs.Walk.{le-or-lt}
-use Rattle.verdict.specs.Marks.{kindKey, isKey}
-use Rattle.verdict.specs.Free.{Plain, freeThree, ownTag, freeAlias}
+use Rattle.verdict.specs.Keys.{kindKey, isKey}
+use Rattle.verdict.specs.Free.{freeThree, ownTag, freeAlias}
 
 no : {P : Type 0} → false ≡ true → P
 no e = clash {b = true} refl (sym e)
@@ -116,18 +116,6 @@ module _ (A L P : List ℕ) where
   free-alias (a ∷ b ∷ c ∷ d ∷ ts) e = no e
 
 -- Subtags that may be asked for.
-free-take : (n : ℕ) (s : Tag) → Free 9 s → Free 9 (take n s)
-unfolding All
-free-take zero s h = tt
-free-take (suc n) [] h = tt
-free-take (suc n) (b ∷ s) h = (h .0, free-take n s (h .1))
-
-free-drop : (n : ℕ) (s : Tag) → Free 9 s → Free 9 (drop n s)
-unfolding All
-free-drop zero s h = h
-free-drop (suc n) [] h = tt
-free-drop (suc n) (b ∷ s) h = free-drop n s (h .1)
-
 language-small : (t : Tag) → isLanguage t ≡ true → length t ≤ 16
 language-small t e = ⊎-elim (λ h. omega arith) (λ h. clash e (sym (language-long t h))) (le-or-lt (length t) 8)
 
@@ -150,15 +138,14 @@ module _ (s : List ℕ) (r : Three) (t : ThreeAt s r) (e : isThree s ≡ true) w
   ok : ThreeOk (three (take (r .language) s) (between s (r .language) (r .script)) (drop (r .script + 1) s))
   ok = rw parts at (three-ok s e)
 
-  module _ (f : Free 9 s) where
-    pub language-plain : Plain (take (r .language) s)
-    language-plain = record { small = language-small (take (r .language) s) (ok .language); free = free-take (r .language) s f }
+  pub language-short : length (take (r .language) s) ≤ 16
+  language-short = language-small (take (r .language) s) (ok .language)
 
-    pub script-plain : Plain (between s (r .language) (r .script))
-    script-plain = record { small = script-small (between s (r .language) (r .script)) (ok .script); free = free-take (r .script - (r .language + 1)) (drop (r .language + 1) s) (free-drop (r .language + 1) s f) }
+  pub script-short : length (between s (r .language) (r .script)) ≤ 16
+  script-short = script-small (between s (r .language) (r .script)) (ok .script)
 
-    pub region-plain : Plain (between s (r .script) (length s))
-    region-plain = rw (all-from (r .script + 1) s) (record { small = region-small (drop (r .script + 1) s) (ok .region); free = free-drop (r .script + 1) s f })
+  pub region-short : length (between s (r .script) (length s)) ≤ 16
+  region-short = rw (all-from (r .script + 1) s) (region-small (drop (r .script + 1) s) (ok .region))
 
   pub language-clash : (A : List ℕ) → isKey A Language (take (r .language) s) ≡ true → false ≡ freeThree A (parse s)
   unfolding freeThree
@@ -179,24 +166,24 @@ own-language v l q = sym (ap (λ (t : Subtags). t .language) (parse-pieces v (ta
 pub own-is : {k : AliasKind} (l : AliasKind) (v r : Tag) → k ≡ l → r ≡ ownTag l v → r ≡ ownTag k v
 own-is l v r e f = f ∙ ap (λ (x : AliasKind). ownTag x v) (sym e)
 
-own-plain : (k : AliasKind) (key v : Tag) → shapeBy k key v ≡ true → Free 9 v → Plain (ownTag k v)
+own-short : (k : AliasKind) (key v : Tag) → shapeBy k key v ≡ true → length (ownTag k v) ≤ 16
 unfolding shapeBy languageAlias ownTag
-own-plain Language key v e f =
+own-short Language key v e =
     let h = and-true (isLanguage key && not (same key und)) (isThree v && not (isUnd (parse v))) e in
     let i = and-true (isThree v) (not (isUnd (parse v))) (h .1) in
     let o = three-ok v (i .0) in
-    record { small = language-small ((parse v) .language) (o .language); free = rw (← own-language v (endOf 45 v 0) refl) (free-take (endOf 45 v 0) v f) }
-own-plain Script key v e f = record { small = script-small v (inr ((and-true (isScript key) (isScript v) e) .1)); free = f }
-own-plain Region key v e f = record { small = region-small v (inr ((and-true (isRegion key) (isRegion v) e) .1)); free = f }
-own-plain Variant key v e f = record { small = variant-small v ((and-true (isVariantTag key) (isVariantTag v) e) .1); free = f }
-own-plain Unknown key v e f = no e
+    language-small ((parse v) .language) (o .language)
+own-short Script key v e = script-small v (inr ((and-true (isScript key) (isScript v) e) .1))
+own-short Region key v e = region-small v (inr ((and-true (isRegion key) (isRegion v) e) .1))
+own-short Variant key v e = variant-small v ((and-true (isVariantTag key) (isVariantTag v) e) .1)
+own-short Unknown key v e = no e
 
 -- the fields of an alias row, by its tabs
 pub record AliasLine (A l : List ℕ) (x y : ℕ) : Type 0 where
   pub first : x < length l
   pub second : y < length l
   pub low : x + 1 ≤ y
-  pub plain : Plain (ownTag (kindNamed (take x l)) (drop (y + 1) l))
+  pub short : length (ownTag (kindNamed (take x l)) (drop (y + 1) l)) ≤ 16
   pub free : freeAlias A (pieces 9 l) ≡ not (isKey A (kindNamed (take x l)) (ownTag (kindNamed (take x l)) (drop (y + 1) l)))
 
 pub others-some : (b : ℕ) (l : List ℕ) (e : ℕ) (t : Tag) (ts : List Tag) → others b l e ≡ t ∷ ts → e < length l
@@ -211,9 +198,9 @@ last-piece b l e t q =
     sym (head-eq-of-cons-eq o) ∙ ⊎-elim (λ (g : length l ≤ f). take-all (f - (e + 1)) (drop (e + 1) l) (simp length-drop (omega arith)))
     (λ g. let n = ap length (sym (tail-eq-of-cons-eq o) ∙ others-at b l f (endOf b l (f + 1)) g refl) in absurd (omega arith)) (le-or-lt (length l) f)
 
-alias-tags : (A l : List ℕ) (x y : ℕ) → x ≡ endOf 9 l 0 → y ≡ endOf 9 l (x + 1) → (a k v : Tag) → pieces 9 l ≡ a ∷ k ∷ v ∷ [] → shapeBy (kindNamed a) k v ≡ true → Free 9 v → AliasLine A l x y
+alias-tags : (A l : List ℕ) (x y : ℕ) → x ≡ endOf 9 l 0 → y ≡ endOf 9 l (x + 1) → (a k v : Tag) → pieces 9 l ≡ a ∷ k ∷ v ∷ [] → shapeBy (kindNamed a) k v ≡ true → AliasLine A l x y
 unfolding freeAlias
-alias-tags A l x y q r a k v e s f =
+alias-tags A l x y q r a k v e s =
     let p = sym (pieces-first 9 l x q) ∙ e in
     let h = others-some 9 l x k (v ∷ []) (tail-eq-of-cons-eq p) in
     let o = sym (others-at 9 l x y h r) ∙ tail-eq-of-cons-eq p in
@@ -225,17 +212,17 @@ alias-tags A l x y q r a k v e s f =
       first = h;
       second = g;
       low = d .low;
-      plain = rw (← w, ← u) (own-plain (kindNamed a) k v s f);
+      short = rw (← w, ← u) (own-short (kindNamed a) k v s);
       free = ap (freeAlias A) e ∙ ap₂ (λ (b c : Tag). not (isKey A (kindNamed b) (ownTag (kindNamed b) c))) w u;
     }
 
 pub alias-line : (A l : List ℕ) (x y : ℕ) → x ≡ endOf 9 l 0 → y ≡ endOf 9 l (x + 1) → aliasShape (pieces 9 l) ≡ true → AliasLine A l x y
-unfolding aliasShape All
-alias-line A l x y q r s = go (pieces 9 l) refl s (pieces-free 9 l)
+unfolding aliasShape
+alias-line A l x y q r s = go (pieces 9 l) refl s
   where
-    go : (ts : List Tag) → pieces 9 l ≡ ts → aliasShape ts ≡ true → All (Free 9) ts → AliasLine A l x y
-    go [] e f g = no f
-    go (a ∷ []) e f g = no f
-    go (a ∷ b ∷ []) e f g = no f
-    go (a ∷ k ∷ v ∷ []) e f g = alias-tags A l x y q r a k v e (sym (alias-by k v a) ∙ f) (g .1 .1 .0)
-    go (a ∷ b ∷ c ∷ d ∷ ts) e f g = no f
+    go : (ts : List Tag) → pieces 9 l ≡ ts → aliasShape ts ≡ true → AliasLine A l x y
+    go [] e f = no f
+    go (a ∷ []) e f = no f
+    go (a ∷ b ∷ []) e f = no f
+    go (a ∷ k ∷ v ∷ []) e f = alias-tags A l x y q r a k v e (sym (alias-by k v a) ∙ f)
+    go (a ∷ b ∷ c ∷ d ∷ ts) e f = no f

@@ -1,39 +1,23 @@
 -- 14: rows that do not clash, by the keys of the aliases. Each definition equals the standard's over rows that have their
 -- shape (proofs/).
 -- Assumes nothing.
-use mathlib.Core.Path.{_≡_}
 use mathlib.Core.Bool.{Bool, false, not, _&&_}
 use mathlib.Core.List.{List, [], _∷_}
-use Prim.Native.Nat.{ℕ, _≤_}
-use lib.Dec.{eqb}
-use lib.ListN.{length}
+use Prim.Native.Nat.{ℕ}
 use Rattle.standard.specs.Tag.{Tag, label}
 use Rattle.standard.specs.Identifier.{Three, Tables}
 use Rattle.standard.specs.Reading.{Fault, fault}
 use Rattle.rows.specs.declared.Table.{Table}
 use Rattle.rows.specs.declared.Table.the-variants.{Aliases, Likely, Parents}
 use Rattle.standard.specs.Table.{parse, isThree, aliasFree, likelyFree, parentFree}
-use Rattle.standard.proofs.Tags.{All}
-use Rattle.table.specs.Search.{Sorted}
 use Rattle.rows.specs.declared.AliasKind.{AliasKind}
 use Rattle.rows.specs.declared.AliasKind.the-variants.{Language, Script, Region, Variant, Unknown}
 use Rattle.rows.specs.Rows.{kindNamed}
 use Rattle.verdict.specs.declared.Clash.{Clash}
 use Rattle.verdict.specs.declared.Clash.the-variants.{Free, At}
-use Rattle.verdict.specs.Marks.{isKey, Marked}
+use Rattle.verdict.specs.Keys.{isKey}
 use Rattle.verdict.specs.Walk.{reachesFrom}
 use mathlib.Core.Option.{Option, none}
-
--- aliases that can be searched, with their marks
-pub record Ready (A marks : List ℕ) : Type 0 where
-  pub sorted : Sorted A
-  pub room : length marks ≡ 32768
-  pub marked : Marked A marks
-
--- a subtag that may be asked for: short, and without a tab
-pub record Plain (t : Tag) : Type 0 where
-  pub small : length t ≤ 16
-  pub free : All (λ (b : ℕ). eqb b 9 ≡ false) t
 
 -- no language, script or region that aliases replace
 unfoldable pub freeThree : List ℕ → Three → Bool

@@ -1,4 +1,4 @@
-pub mod Marks
+pub mod Keys
 pub mod Walk
 pub mod Free
 pub mod Verdicts

@@ -1,5 +1,5 @@
 // The check of the three tables: 11, 12 and 13, and rows that clash (14). Aliases are asked thousands of times whether a
-// subtag is a key; marks, one byte for each slot of a key, answer nearly all of that without a search.
+// subtag is a key, and parents whether a text is; hints answer nearly all of that without a search.
 ghost use mathlib.Core.Path.{_≡_};
 ghost use mathlib.Core.Bool.{true, false};
 ghost use mathlib.Core.List.{[], _++_};
@@ -8,75 +8,33 @@ ghost use lib.ListN.{length};
 ghost use lib.Seq.{sets};
 ghost use Rattle.standard.specs.Table.{pieces, rows, parse, isThree, aliasShape, parentShape, tooBig, rowsFault, clashFault, inTable, check as checkOf};
 ghost use Rattle.table.specs.Search.{Sorted};
-ghost use Rattle.rows.proofs.Pieces.{Free};
+ghost use Rattle.table.specs.Hints.{slotOf, Leads, Hinted, Indexed};
 ghost use Rattle.rows.specs.Shapes.{between};
 ghost use Rattle.standard.proofs.Table.{Pass};
 ghost use mathlib.Core.Option.{none};
 ghost use Rattle.verdict.specs.Verdicts.{verdictIs, numberOf, sizesFault, shapesFault, clashesFault, Shaped};
 ghost use Rattle.verdict.specs.Walk.{cut, ValueOk, ShorterAt, ParentAt, reachesFrom};
-ghost use Rattle.verdict.specs.Free.{Ready, Plain, freeThree, ownTag, freeAlias, isThrees, secondOf, freeParent, freeRow, clashIs};
+ghost use Rattle.verdict.specs.Free.{freeThree, ownTag, freeAlias, isThrees, secondOf, freeParent, freeRow, clashIs};
 ghost use Rattle.rows.specs.Rows.{shapeOf};
-ghost use Rattle.verdict.specs.Marks.{seedOf, slotFrom, slotOf, rowSlot, Marked, kindKey, isKey};
+ghost use Rattle.verdict.specs.Keys.{kindKey, isKey};
 use rows::AliasKind;
 use rows::Table;
+use table::hints::fill_hints;
+use table::hints::find_by;
+use table::hints::find_hinted;
+use table::hints::hint;
+use table::hints::slot_from;
 
-// Where the slots of a kind's keys start from.
+// The slot of the kind's name and a tab, from which the slots of its keys go on.
 fn seed(kind: AliasKind) -> usize
-    ensures { λ r. ⌜ (r ≡ seedOf kind) × (r < 32768) ⌝ }
+    ensures { λ r. ⌜ (r ≡ slotOf (kindKey kind)) × (r < 16384) ⌝ }
 {
     match kind {
-        AliasKind::Language => 1,
-        AliasKind::Script => 2,
-        AliasKind::Region => 3,
-        AliasKind::Variant => 4,
-        AliasKind::Unknown => 5,
-    }
-}
-
-fn wide(b: u8) -> usize
-    ensures { λ r. ⌜ (r ≡ b) × (r < 256) ⌝ }
-{
-    b as usize
-}
-
-// The slot of a key of the kind.
-fn slot(kind: AliasKind, tag: &[u8]) -> usize
-    ensures { λ r. ⌜ (r ≡ slotOf kind (now (tag .entry))) × (r < 32768) ⌝ }
-{
-    let mut h = seed(kind);
-    let mut i = 0;
-    while i < tag.len() {
-        h = (h * 67 + wide(tag[i])) % 32768;
-        i += 1;
-    }
-    h
-}
-
-// The slot of an alias row's key.
-fn row_slot(line: &[u8]) -> usize
-    ensures { λ r. ⌜ (r ≡ rowSlot (pieces 9 (now (line .entry)))) × (r < 32768) ⌝ }
-{
-    let a = table::end_of(line, 9, 0);
-    if line.len() <= a {
-        return 0;
-    }
-    let start = a + 1;
-    let b = table::end_of(line, 9, start);
-    let kind = rows::kind_named(&line[..a]);
-    slot(kind, &line[start..b])
-}
-
-// Marks the slot of each row's key.
-fn mark_keys(t: &[u8], marks: &mut [u8])
-    requires { ⌜ length (now marks) ≡ 32768 ⌝ }
-    ensures { λ _. ⌜ (length (now (marks .exit)) ≡ 32768) × Marked (now (t .entry)) (now (marks .exit)) ⌝ }
-{
-    let mut i = 0;
-    while i < t.len() {
-        let e = table::end_of(t, 10, i);
-        let s = row_slot(&t[i..e]);
-        marks[s] = 1;
-        i = e + 1;
+        AliasKind::Language => 12365,
+        AliasKind::Script => 10654,
+        AliasKind::Region => 11149,
+        AliasKind::Variant => 7454,
+        AliasKind::Unknown => 9,
     }
 }
 
@@ -94,28 +52,29 @@ fn put_kind(kind: AliasKind, out: &mut [u8]) -> usize
     }
 }
 
-// Is there an alias of the kind with this key? By a search.
-fn search(a: &[u8], kind: AliasKind, tag: &[u8]) -> bool
-    requires { ⌜ Sorted (now a) × (length (now tag) ≤ 16) ⌝ }
+// Is there an alias of the kind with this key, whose hint is v?
+fn search(a: &[u8], v: usize, kind: AliasKind, tag: &[u8]) -> bool
+    requires { ⌜ Sorted (now a) × (length (now tag) ≤ 16) × Leads (now a) (kindKey kind ++ now tag) v ⌝ }
     ensures { λ r. ⌜ r ≡ isKey (now (a .entry)) kind (now (tag .entry)) ⌝ }
 {
     let mut key = [0u8; 32];
     let n = put_kind(kind, &mut key);
     let m = subtag::put(tag, &mut key, n);
-    let f = table::find_sorted(a, &key[..m]);
+    let f = find_by(a, v, &key[..m]);
     f.found
 }
 
-// Is there an alias of the kind with this key?
-fn is_key(a: &[u8], marks: &[u8], kind: AliasKind, tag: &[u8]) -> bool
-    requires { ⌜ Ready (now a) (now marks) × Plain (now tag) ⌝ }
+// Is there an alias of the kind with this key? The hint 0 is a no, before any key is written.
+fn is_key(a: &[u8], hints: &[u16], kind: AliasKind, tag: &[u8]) -> bool
+    requires { ⌜ Indexed (now a) (now hints) × (length (now tag) ≤ 16) ⌝ }
     ensures { λ r. ⌜ r ≡ isKey (now (a .entry)) kind (now (tag .entry)) ⌝ }
 {
-    let s = slot(kind, tag);
-    if marks[s] != 1 {
+    let s = slot_from(seed(kind), tag);
+    let v = hint(hints, s);
+    if v == 0 {
         return false;
     }
-    search(a, kind, tag)
+    search(a, v, kind, tag)
 }
 
 // What stands between the separator at a and the place b.
@@ -131,20 +90,20 @@ fn part(s: &[u8], a: usize, b: usize) -> &[u8]
 }
 
 // Has a value no language, script or region that aliases replace?
-fn value_free(a: &[u8], marks: &[u8], value: &[u8]) -> bool
-    requires { ⌜ Ready (now a) (now marks) × (isThree (now value) ≡ true) × Free 9 (now value) ⌝ }
+fn value_free(a: &[u8], hints: &[u16], value: &[u8]) -> bool
+    requires { ⌜ Indexed (now a) (now hints) × (isThree (now value) ≡ true) ⌝ }
     ensures { λ r. ⌜ r ≡ freeThree (now (a .entry)) (parse (now (value .entry))) ⌝ }
 {
     let t = rows::three_of(value);
     let l = t.language;
     let e = t.script;
-    if is_key(a, marks, AliasKind::Language, &value[..l]) {
+    if is_key(a, hints, AliasKind::Language, &value[..l]) {
         return false;
     }
-    if is_key(a, marks, AliasKind::Script, part(value, l, e)) {
+    if is_key(a, hints, AliasKind::Script, part(value, l, e)) {
         return false;
     }
-    !is_key(a, marks, AliasKind::Region, part(value, e, value.len()))
+    !is_key(a, hints, AliasKind::Region, part(value, e, value.len()))
 }
 
 // The subtag of an alias value of the row's own kind.
@@ -164,8 +123,8 @@ fn own(kind: AliasKind, value: &[u8]) -> &[u8]
 }
 
 // Is the own subtag of an alias row's value no key of its kind?
-fn alias_free(a: &[u8], marks: &[u8], line: &[u8]) -> bool
-    requires { ⌜ Ready (now a) (now marks) × (aliasShape (pieces 9 (now line)) ≡ true) ⌝ }
+fn alias_free(a: &[u8], hints: &[u16], line: &[u8]) -> bool
+    requires { ⌜ Indexed (now a) (now hints) × (aliasShape (pieces 9 (now line)) ≡ true) ⌝ }
     ensures { λ r. ⌜ r ≡ freeAlias (now (a .entry)) (pieces 9 (now (line .entry))) ⌝ }
 {
     let x = table::end_of(line, 9, 0);
@@ -173,7 +132,7 @@ fn alias_free(a: &[u8], marks: &[u8], line: &[u8]) -> bool
     let y = table::end_of(line, 9, start);
     let from = y + 1;
     let kind = rows::kind_named(&line[..x]);
-    !is_key(a, marks, kind, own(kind, &line[from..]))
+    !is_key(a, hints, kind, own(kind, &line[from..]))
 }
 
 // A parent: `und`, or the text of the table from at to end.
@@ -214,11 +173,11 @@ fn shorter(p: &[u8], at: usize, end: usize) -> Parent
 }
 
 // The parent of the text: the table's value if there is a row.
-fn parent_at(p: &[u8], at: usize, end: usize) -> Parent
-    requires { ⌜ Sorted (now p) × Pass parentShape (rows (now p)) × (at ≤ end) × (end ≤ length (now p)) × ValueOk (cut (now p) at end) ⌝ }
+fn parent_at(p: &[u8], own: &[u16], at: usize, end: usize) -> Parent
+    requires { ⌜ Indexed (now p) (now own) × Pass parentShape (rows (now p)) × (at ≤ end) × (end ≤ length (now p)) × ValueOk (cut (now p) at end) ⌝ }
     ensures { λ r. ⌜ ParentAt (now (p .entry)) at end r ⌝ }
 {
-    let f = table::find_sorted(p, &p[at..end]);
+    let f = find_hinted(p, own, &p[at..end]);
     if f.found {
         let start = f.start;
         return Parent {
@@ -231,8 +190,8 @@ fn parent_at(p: &[u8], at: usize, end: usize) -> Parent
 }
 
 // Is the walk of parents from the text at `und` within 8 steps?
-fn reaches_root(p: &[u8], from: usize, to: usize) -> bool
-    requires { ⌜ Sorted (now p) × Pass parentShape (rows (now p)) × (from ≤ to) × (to ≤ length (now p)) × ValueOk (cut (now p) from to) ⌝ }
+fn reaches_root(p: &[u8], own: &[u16], from: usize, to: usize) -> bool
+    requires { ⌜ Indexed (now p) (now own) × Pass parentShape (rows (now p)) × (from ≤ to) × (to ≤ length (now p)) × ValueOk (cut (now p) from to) ⌝ }
     ensures { λ r. ⌜ r ≡ reachesFrom (now (p .entry)) 8 (cut (now (p .entry)) from to) ⌝ }
 {
     let mut at = from;
@@ -245,7 +204,7 @@ fn reaches_root(p: &[u8], from: usize, to: usize) -> bool
         if left == 0 {
             return false;
         }
-        let next = parent_at(p, at, end);
+        let next = parent_at(p, own, at, end);
         if next.root {
             return true;
         }
@@ -256,36 +215,36 @@ fn reaches_root(p: &[u8], from: usize, to: usize) -> bool
 }
 
 // Has the value of a likely or parent row nothing that aliases replace?
-fn two_free(a: &[u8], marks: &[u8], line: &[u8]) -> bool
-    requires { ⌜ Ready (now a) (now marks) × (isThrees (pieces 9 (now line)) ≡ true) ⌝ }
+fn two_free(a: &[u8], hints: &[u16], line: &[u8]) -> bool
+    requires { ⌜ Indexed (now a) (now hints) × (isThrees (pieces 9 (now line)) ≡ true) ⌝ }
     ensures { λ r. ⌜ r ≡ freeThree (now (a .entry)) (parse (secondOf (pieces 9 (now (line .entry))))) ⌝ }
 {
     let x = table::end_of(line, 9, 0);
     let start = x + 1;
-    value_free(a, marks, &line[start..])
+    value_free(a, hints, &line[start..])
 }
 
 // The same of a parent row, from i to e in the table, whose walk has to end, too.
-fn parent_free(a: &[u8], marks: &[u8], p: &[u8], i: usize, e: usize) -> bool
-    requires { ⌜ Ready (now a) (now marks) × Sorted (now p) × Pass parentShape (rows (now p)) × (i ≤ e) × (e ≤ length (now p)) × (isThrees (pieces 9 (cut (now p) i e)) ≡ true) ⌝ }
+fn parent_free(a: &[u8], hints: &[u16], p: &[u8], own: &[u16], i: usize, e: usize) -> bool
+    requires { ⌜ Indexed (now a) (now hints) × Indexed (now p) (now own) × Pass parentShape (rows (now p)) × (i ≤ e) × (e ≤ length (now p)) × (isThrees (pieces 9 (cut (now p) i e)) ≡ true) ⌝ }
     ensures { λ r. ⌜ r ≡ freeParent (now (a .entry)) (now (p .entry)) (pieces 9 (cut (now (p .entry)) i e)) ⌝ }
 {
-    if !two_free(a, marks, &p[i..e]) {
+    if !two_free(a, hints, &p[i..e]) {
         return false;
     }
     let x = table::end_of(&p[i..e], 9, 0);
-    reaches_root(p, i, i + x)
+    reaches_root(p, own, i, i + x)
 }
 
 // Does the row from i to e of the table clash with none?
-fn free(a: &[u8], marks: &[u8], t: &[u8], i: usize, e: usize, table: Table) -> bool
-    requires { ⌜ Ready (now a) (now marks) × Sorted (now t) × Pass (shapeOf table) (rows (now t)) × (i ≤ e) × (e ≤ length (now t)) × (shapeOf table (pieces 9 (cut (now t) i e)) ≡ true) ⌝ }
+fn free(a: &[u8], hints: &[u16], t: &[u8], own: &[u16], i: usize, e: usize, table: Table) -> bool
+    requires { ⌜ Indexed (now a) (now hints) × Indexed (now t) (now own) × Pass (shapeOf table) (rows (now t)) × (i ≤ e) × (e ≤ length (now t)) × (shapeOf table (pieces 9 (cut (now t) i e)) ≡ true) ⌝ }
     ensures { λ r. ⌜ r ≡ freeRow table (now (a .entry)) (now (t .entry)) (pieces 9 (cut (now (t .entry)) i e)) ⌝ }
 {
     match table {
-        Table::Aliases => alias_free(a, marks, &t[i..e]),
-        Table::Likely => two_free(a, marks, &t[i..e]),
-        Table::Parents => parent_free(a, marks, t, i, e),
+        Table::Aliases => alias_free(a, hints, &t[i..e]),
+        Table::Likely => two_free(a, hints, &t[i..e]),
+        Table::Parents => parent_free(a, hints, t, own, i, e),
     }
 }
 
@@ -295,14 +254,14 @@ pub enum Clash {
     At(usize),
 }
 
-fn check_clash(a: &[u8], marks: &[u8], t: &[u8], table: Table) -> Clash
-    requires { ⌜ Ready (now a) (now marks) × Sorted (now t) × Pass (shapeOf table) (rows (now t)) ⌝ }
+fn check_clash(a: &[u8], hints: &[u16], t: &[u8], own: &[u16], table: Table) -> Clash
+    requires { ⌜ Indexed (now a) (now hints) × Indexed (now t) (now own) × Pass (shapeOf table) (rows (now t)) ⌝ }
     ensures { λ r. ⌜ clashIs r ≡ clashFault (freeRow table (now (a .entry)) (now (t .entry))) 0 (rows (now (t .entry))) ⌝ }
 {
     let mut i = 0;
     while i < t.len() {
         let e = table::end_of(t, 10, i);
-        if !free(a, marks, t, i, e, table) {
+        if !free(a, hints, t, own, i, e, table) {
             return Clash::At(i);
         }
         i = e + 1;
@@ -356,14 +315,14 @@ fn check_shape(t: &[u8], table: Table, used: bool) -> Verdict
 }
 
 // 14, of a table that is used.
-fn check_free(a: &[u8], marks: &[u8], t: &[u8], table: Table, used: bool) -> Verdict
-    requires { ⌜ Ready (now a) (now marks) × (used ≡ true → rowsFault (shapeOf table) none 0 (rows (now t)) ≡ none) ⌝ }
+fn check_free(a: &[u8], hints: &[u16], t: &[u8], own: &[u16], table: Table, used: bool) -> Verdict
+    requires { ⌜ Indexed (now a) (now hints) × (used ≡ true → rowsFault (shapeOf table) none 0 (rows (now t)) ≡ none) × Hinted (now t) (now own) ⌝ }
     ensures { λ r. ⌜ verdictIs r ≡ inTable used (numberOf table) (clashFault (freeRow table (now (a .entry)) (now (t .entry))) 0 (rows (now (t .entry)))) ⌝ }
 {
     if !used {
         return Verdict::Good;
     }
-    let r = check_clash(a, marks, t, table);
+    let r = check_clash(a, hints, t, own, table);
     match r {
         Clash::Free => Verdict::Good,
         Clash::At(at) => Verdict::Bad(14, number(table), at),
@@ -398,22 +357,43 @@ fn check_shapes(a: &[u8], l: &[u8], p: &[u8], use_l: bool, use_p: bool) -> Verdi
     check_shape(p, Table::Parents, use_p)
 }
 
+// 14, of the parents if they are used. Their walks look rows up in the table itself, by hints of its own.
+fn check_walks(a: &[u8], hints: &[u16], p: &[u8], used: bool) -> Verdict
+    requires { ⌜ Indexed (now a) (now hints) × (used ≡ true → rowsFault parentShape none 0 (rows (now p)) ≡ none) ⌝ }
+    ensures { λ r. ⌜ verdictIs r ≡ inTable used 3 (clashFault (freeRow Table.Parents (now (a .entry)) (now (p .entry))) 0 (rows (now (p .entry)))) ⌝ }
+{
+    if !used {
+        return Verdict::Good;
+    }
+    let mut own = [0u16; 16384];
+    fill_hints(p, &mut own);
+    check_free(a, hints, p, &own, Table::Parents, true)
+}
+
+// 14 of the tables that are used, over rows that have their shape, with the hints of the aliases.
+fn check_hinted(a: &[u8], hints: &[u16], l: &[u8], p: &[u8], use_l: bool, use_p: bool) -> Verdict
+    requires { ⌜ Shaped use_l use_p (now a) (now l) (now p) × Hinted (now a) (now hints) ⌝ }
+    ensures { λ r. ⌜ verdictIs r ≡ clashesFault use_l use_p (now (a .entry)) (now (l .entry)) (now (p .entry)) ⌝ }
+{
+    let v = check_free(a, hints, a, hints, Table::Aliases, true);
+    let Verdict::Good = v else {
+        return v;
+    };
+    let w = check_free(a, hints, l, &hints[..0], Table::Likely, use_l);
+    let Verdict::Good = w else {
+        return w;
+    };
+    check_walks(a, hints, p, use_p)
+}
+
 // 14 of the tables that are used, over rows that have their shape.
 fn check_clashes(a: &[u8], l: &[u8], p: &[u8], use_l: bool, use_p: bool) -> Verdict
     requires { ⌜ Shaped use_l use_p (now a) (now l) (now p) ⌝ }
     ensures { λ r. ⌜ verdictIs r ≡ clashesFault use_l use_p (now (a .entry)) (now (l .entry)) (now (p .entry)) ⌝ }
 {
-    let mut marks = [0u8; 32768];
-    mark_keys(a, &mut marks);
-    let v = check_free(a, &marks, a, Table::Aliases, true);
-    let Verdict::Good = v else {
-        return v;
-    };
-    let w = check_free(a, &marks, l, Table::Likely, use_l);
-    let Verdict::Good = w else {
-        return w;
-    };
-    check_free(a, &marks, p, Table::Parents, use_p)
+    let mut hints = [0u16; 16384];
+    fill_hints(a, &mut hints);
+    check_hinted(a, &hints, l, p, use_l, use_p)
 }
 
 // The aliases, and the likely and parent tables where they are used.

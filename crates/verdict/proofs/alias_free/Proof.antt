@@ -8,7 +8,7 @@ use lib.ListN.{length, take, drop}
 use lib.Seq.{length-take-le}
 use Rattle.rows.proofs.Pieces.{all-from}
 use Rattle.rows.specs.Rows.{kindNamed}
-use Rattle.verdict.specs.Marks.{isKey}
+use Rattle.verdict.specs.Keys.{isKey}
 use Rattle.verdict.specs.Free.{ownTag}
 use Rattle.verdict.proofs.Frees.{AliasLine, alias-line}
 use borrow.Author.Needs.{needs}
@@ -57,7 +57,7 @@ own-requires c κs = search needs
 is-key-requires : tie.Need-is-key-requires
 is-key-requires c κs =
     let e = c .before .before .before .before in
-    (e .before .before .before .before .before .pre .0, rw (c .own .ensures ∙ value c) (fields e .plain))
+    (e .before .before .before .before .before .pre .0, rw (c .own .ensures ∙ value c) (fields e .short))
 
 returns : tie.Need-returns
 returns c =

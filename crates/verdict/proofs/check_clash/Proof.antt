@@ -15,25 +15,25 @@ use Rattle.verdict.proofs.check_clash.Statement.{statement}
 use Rattle.verdict.proofs.check_clash.Tie as tie
 
 abbrev Inv-loop : tie.InvT-loop
-Inv-loop a marks t table i₀ i = Pass (shapeOf table) (pieces 10 (drop i t)) × (clashFault (freeRow table a t) 0 (rows t) ≡ clashFault (freeRow table a t) i (pieces 10 (drop i t)))
+Inv-loop a hints t own table i₀ i = Pass (shapeOf table) (pieces 10 (drop i t)) × (clashFault (freeRow table a t) 0 (rows t) ≡ clashFault (freeRow table a t) i (pieces 10 (drop i t)))
 
 abbrev μ-loop : tie.MeasureT-loop
-μ-loop a marks t table i₀ i = length t - i
+μ-loop a hints t own table i₀ i = length t - i
 
 loop-holds : tie.Need-loop-holds Inv-loop μ-loop
 unfolding rows
-loop-holds c = (c .before .before .before .pre .2, refl)
+loop-holds c = (c .before .before .before .before .pre .2, refl)
 
 end-of-requires : tie.Need-end-of-requires Inv-loop μ-loop
 end-of-requires c κs = search needs
 
 -- the line's end lies at or after its start, and within the table
-bounds : (c : tie.After-end-of Inv-loop μ-loop) → Ends 10 (c .before .before .before .before .before .before .args .t .now) (c .before .before .loop .i) (c .end-of .result)
+bounds : (c : tie.After-end-of Inv-loop μ-loop) → Ends 10 (c .before .before .before .before .before .before .before .args .t .now) (c .before .before .loop .i) (c .end-of .result)
 bounds c = ends _ _ _ _ (c .end-of .ensures) (omega arith)
 
 free-requires : tie.Need-free-requires Inv-loop μ-loop
 free-requires c κs =
-    let p = c .before .before .before .before .before .before .pre in
+    let p = c .before .before .before .before .before .before .before .pre in
     let l = c .before .before .loop .inv in
     let b = bounds c in
     (p .0, p .1, p .2, b .low, b .high, pass-row _ _ _ _ (c .end-of .ensures) (c .before .loop-test .taken) (l .0) .0)

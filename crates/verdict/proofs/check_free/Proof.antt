@@ -14,9 +14,9 @@ returns c = unused _ _ _ (not-true _ (c .if1 .taken))
 
 check-clash-requires : tie.Need-check-clash-requires
 check-clash-requires c κs =
-    let p = c .before .before .before .before .pre in
+    let p = c .before .before .before .before .before .pre in
     let s = p .1 (not-false _ (c .if1 .left)) in
-    (p .0, sorted _ _ s, rows-pass _ none 0 _ s)
+    (p .0, record { sorted = sorted _ _ s; hinted = p .2 }, rows-pass _ none 0 _ s)
 
 enum-told : tie.Need-enum-told
 enum-told c = search needs

@@ -23,7 +23,7 @@ alias-free-requires : tie.Need-alias-free-requires
 unfolding shapeOf
 alias-free-requires c κs =
     let e = c .before in
-    let p = e .before .before .before .before .before .pre in
+    let p = e .before .before .before .before .before .before .pre in
     (p .0, shape-is Aliases _ (e .enum-told .given .1) (p .5))
 
 enum-told-2 : tie.Need-enum-told-2
@@ -42,7 +42,7 @@ two-free-requires : tie.Need-two-free-requires
 unfolding shapeOf
 two-free-requires c κs =
     let e = c .before in
-    let p = e .before .before .before .before .before .pre in
+    let p = e .before .before .before .before .before .before .pre in
     (p .0, likely-threes _ (shape-is Likely _ (e .enum-told2 .given .1) (p .5)))
 
 enum-told-3 : tie.Need-enum-told-3
@@ -51,7 +51,7 @@ enum-told-3 c = search needs
 parent-free-requires : tie.Need-parent-free-requires
 unfolding shapeOf
 parent-free-requires c κs =
-    let p = c .before .before .before .before .before .pre in
+    let p = c .before .before .before .before .before .before .pre in
     (p .0, p .1, pass-parents _ (c .enum-told3 .given .1) (p .2), p .3, p .4, parent-threes _ (shape-is Parents _ (c .enum-told3 .given .1) (p .5)))
 
 returns : tie.Need-returns

@@ -4,26 +4,26 @@ use borrow.Author.Needs.{needs}
 use Rattle.verdict.proofs.parent_at.Statement.{statement}
 use Rattle.verdict.proofs.parent_at.Tie as tie
 
-sub-find-sorted : tie.Need-sub-find-sorted
-sub-find-sorted c = search needs
+sub-find-hinted : tie.Need-sub-find-hinted
+sub-find-hinted c = search needs
 
-part-find-sorted-start : tie.Need-part-find-sorted-start
-part-find-sorted-start c = search needs
+part-find-hinted-start : tie.Need-part-find-hinted-start
+part-find-hinted-start c = search needs
 
-part-find-sorted-end : tie.Need-part-find-sorted-end
-part-find-sorted-end c = search needs
+part-find-hinted-end : tie.Need-part-find-hinted-end
+part-find-hinted-end c = search needs
 
-find-sorted-requires : tie.Need-find-sorted-requires
-find-sorted-requires c κs = search needs
+find-hinted-requires : tie.Need-find-hinted-requires
+find-hinted-requires c κs = search needs
 
-add-t11 : tie.Need-add-t11
-add-t11 c = search needs
+add-t12 : tie.Need-add-t12
+add-t12 c = search needs
 
 returns : tie.Need-returns
 returns c =
     let f = c .before .before in
-    let p = f .before .before .before .pre in
-    parent-row _ _ _ (p .2) (p .3) (p .4) (p .1) (f .find-sorted .result) (f .find-sorted .ensures .0 (p .0)) (c .before .if1 .taken) (f .find-sorted .ensures .1)
+    let p = f .before .before .before .before .pre in
+    parent-row _ _ _ (p .2) (p .3) (p .4) (p .1) (f .find-hinted .result) (f .find-hinted .ensures .0 (p .0)) (c .before .if1 .taken) (f .find-hinted .ensures .1)
 
 shorter-requires : tie.Need-shorter-requires
 shorter-requires c κs = search needs
@@ -31,18 +31,18 @@ shorter-requires c κs = search needs
 returns-2 : tie.Need-returns-2
 returns-2 c =
     let f = c .before .before in
-    let p = f .before .before .before .pre in
-    parent-short _ _ _ (p .2) (p .3) (p .4) (f .find-sorted .result) _ (f .find-sorted .ensures .0 (p .0)) (c .before .if1 .left) (c .shorter .ensures)
+    let p = f .before .before .before .before .pre in
+    parent-short _ _ _ (p .2) (p .3) (p .4) (f .find-hinted .result) _ (f .find-hinted .ensures .0 (p .0)) (c .before .if1 .left) (c .shorter .ensures)
 
 pub parent-at-spec : {M : Type 1} → statement M
 parent-at-spec =
     tie.close
     (tie.spec
-    sub-find-sorted
-    part-find-sorted-start
-    part-find-sorted-end
-    find-sorted-requires
-    add-t11
+    sub-find-hinted
+    part-find-hinted-start
+    part-find-hinted-end
+    find-hinted-requires
+    add-t12
     returns
     shorter-requires
     returns-2)

@@ -37,13 +37,13 @@ end-of-requires : tie.Need-end-of-requires
 end-of-requires c κs = search needs
 
 -- the fields of the row
-fields : (c : tie.After-end-of) → TwoLine (cut (c .before .before .before .before .before .before .before .before .args .p .now) (c .before .before .before .before .before .before .before .before .args .i) (c .before .before .before .before .before .before .before .before .args .e)) (c .end-of .result)
-fields c = two-line _ _ (c .end-of .ensures) (c .before .before .before .before .before .before .before .before .pre .5)
+fields : (c : tie.After-end-of) → TwoLine (cut (c .before .before .before .before .before .before .before .before .before .args .p .now) (c .before .before .before .before .before .before .before .before .before .args .i) (c .before .before .before .before .before .before .before .before .before .args .e)) (c .end-of .result)
+fields c = two-line _ _ (c .end-of .ensures) (c .before .before .before .before .before .before .before .before .before .pre .5)
 
-key : (c : tie.After-end-of) → c .end-of .result ≤ c .before .before .before .before .before .before .before .before .args .e - c .before .before .before .before .before .before .before .before .args .i
+key : (c : tie.After-end-of) → c .end-of .result ≤ c .before .before .before .before .before .before .before .before .before .args .e - c .before .before .before .before .before .before .before .before .before .args .i
 key c =
     let s = c .before .before .before .before .before .before .before .before in
-    let n = cut-size (s .args .p .now) (s .args .i) (s .args .e) (s .pre .3) (s .pre .4) in
+    let n = cut-size (s .before .args .p .now) (s .before .args .i) (s .before .args .e) (s .before .pre .3) (s .before .pre .4) in
     let h = fields c .room in
     omega arith
 
@@ -53,15 +53,15 @@ add-reaches-root c = omega (arith, key c)
 reaches-root-requires : tie.Need-reaches-root-requires
 reaches-root-requires c κs =
     let s = c .before .before .before .before .before .before .before .before in
-    let a = s .args in
-    (s .pre .1, s .pre .2, omega arith, omega (arith, key c), rw (key-cut (a .p .now) (a .i) (a .e) (c .end-of .result) (key c)) (fields c .key))
+    let a = s .before .args in
+    (s .before .pre .1, s .before .pre .2, omega arith, omega (arith, key c), rw (key-cut (a .p .now) (a .i) (a .e) (c .end-of .result) (key c)) (fields c .key))
 
 returns-2 : tie.Need-returns-2
 returns-2 c =
     let e = c .before in
     let i = e .before .before in
     let s = i .before .before .before .before .before .before in
-    let a = s .args in
+    let a = s .before .args in
     parent-walk _ _ _ (c .reaches-root .result) (sym (i .before .two-free .ensures) ∙ not-false _ (i .if1 .left)) (c .reaches-root .ensures ∙ ap (reachesFrom (a .p .now) 8) (key-cut (a .p .now) (a .i) (a .e) (e .end-of .result) (key e) ∙ sym (fields e .first)))
 
 pub parent-free-spec : {M : Type 1} → statement M

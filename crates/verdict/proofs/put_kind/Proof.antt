@@ -1,6 +1,6 @@
 -- `verdict::put_kind` meets its contract, kind by kind. Assumes nothing.
 use mathlib.Core.Path.{refl}
-use Rattle.verdict.specs.Marks.{kindKey}
+use Rattle.verdict.specs.Keys.{kindKey}
 use Rattle.verdict.proofs.Slots.{put-is}
 use borrow.Author.Needs.{needs}
 use Rattle.verdict.proofs.put_kind.Statement.{statement}

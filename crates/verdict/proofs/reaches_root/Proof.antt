@@ -11,13 +11,13 @@ use Rattle.verdict.proofs.reaches_root.Statement.{statement}
 use Rattle.verdict.proofs.reaches_root.Tie as tie
 
 abbrev Inv-loop : tie.InvT-loop
-Inv-loop p from to at₀ end₀ left₀ t8 at end left = (at ≤ end) × (end ≤ length p) × (left ≤ 8) × ValueOk (cut p at end) × (reachesFrom p 8 (cut p from to) ≡ reachesFrom p left (cut p at end))
+Inv-loop p own from to at₀ end₀ left₀ t8 at end left = (at ≤ end) × (end ≤ length p) × (left ≤ 8) × ValueOk (cut p at end) × (reachesFrom p 8 (cut p from to) ≡ reachesFrom p left (cut p at end))
 
 abbrev μ-loop : tie.MeasureT-loop
-μ-loop p from to at₀ end₀ left₀ t8 at end left = left
+μ-loop p own from to at₀ end₀ left₀ t8 at end left = left
 
 loop-holds : tie.Need-loop-holds Inv-loop μ-loop
-loop-holds c = let p = c .before .pre in (p .2, p .3, omega arith, p .4, refl)
+loop-holds c = let p = c .before .before .pre in (p .2, p .3, omega arith, p .4, refl)
 
 sub-same : tie.Need-sub-same Inv-loop μ-loop
 sub-same c = omega arith
@@ -48,7 +48,7 @@ returns-2 c =
 parent-at-requires : tie.Need-parent-at-requires Inv-loop μ-loop
 parent-at-requires c κs =
     let l = c .before .before .before .before .before .loop .inv in
-    let p = c .before .before .before .before .before .before .before .pre in
+    let p = c .before .before .before .before .before .before .before .before .pre in
     (p .0, p .1, l .0, l .1, l .3)
 
 returns-3 : tie.Need-returns-3 Inv-loop μ-loop

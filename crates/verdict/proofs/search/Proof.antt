@@ -6,7 +6,7 @@ use mathlib.Core.List.{List}
 use lib.ListN.{length, replicate}
 use lib.Seq.{length-take-le}
 use Rattle.standard.specs.Table.{Found as Located, located}
-use Rattle.verdict.specs.Marks.{kindKey, isKey}
+use Rattle.verdict.specs.Keys.{kindKey, isKey}
 use Rattle.verdict.proofs.Slots.{kind-size, sized, written-key}
 use borrow.Author.Needs.{needs}
 use Rattle.verdict.proofs.search.Statement.{statement}
@@ -43,13 +43,13 @@ array-share-prefix-key c =
     let k = kind-size (c .before .before .before .before .before .before .before .before .args .kind) in
     omega (arith, second (c .before), c .before .put .ensures .0, c .before .before .before .before .put-kind .ensures .0)
 
-slice-aggregate-find-sorted : tie.Need-slice-aggregate-find-sorted
-slice-aggregate-find-sorted c =
+slice-aggregate-find-by : tie.Need-slice-aggregate-find-by
+slice-aggregate-find-by c =
     let k = kind-size (c .before .before .before .before .before .before .before .before .before .args .kind) in
     sym (length-take-le _ _ (omega (arith, second (c .before .before), c .before .before .put .ensures .0, c .before .before .before .before .before .put-kind .ensures .0)))
 
-find-sorted-requires : tie.Need-find-sorted-requires
-find-sorted-requires c κs = search needs
+find-by-requires : tie.Need-find-by-requires
+find-by-requires c κs = search needs
 
 returns : tie.Need-returns
 unfolding isKey
@@ -58,7 +58,8 @@ returns c =
     let p = c .before .before .before .put in
     let n = c .before .before .before .before .before .before .put-kind in
     let w = written-key (a .kind) (a .tag .now) zeros (n .last .1 .0) (p .last .1 .0) (n .result) (p .result) refl (c .before .before .before .before .before .before .before .before .before .before .pre .1) (n .ensures .0) (n .ensures .1) (p .ensures .0) (p .ensures .1) in
-    ap (λ (f : Located). f .found) (c .find-sorted .ensures .0 (c .before .before .before .before .before .before .before .before .before .before .pre .0) ∙ ap (located (a .a .now)) w)
+    let q = c .before .before .before .before .before .before .before .before .before .before .pre in
+    ap (λ (f : Located). f .found) (c .find-by .ensures .0 (q .0) (rw (← w) at (q .2)) ∙ ap (located (a .a .now)) w)
 
 pub search-spec : {M : Type 1} → statement M
 search-spec =
@@ -69,6 +70,6 @@ search-spec =
     slice-aggregate-put
     put-requires
     array-share-prefix-key
-    slice-aggregate-find-sorted
-    find-sorted-requires
+    slice-aggregate-find-by
+    find-by-requires
     returns)

@@ -1,7 +1,8 @@
 -- `verdict::seed` meets its contract, kind by kind. Assumes nothing.
 use native.Mathlib.Omega.{arith}
 use mathlib.Core.Path.{refl}
-use Rattle.verdict.specs.Marks.{seedOf}
+use Rattle.table.specs.Hints.{slotStep, slotFrom, slotOf}
+use Rattle.verdict.specs.Keys.{kindKey}
 use Rattle.verdict.proofs.Slots.{seed-is}
 use borrow.Author.Needs.{needs}
 use Rattle.verdict.proofs.seed.Statement.{statement}
@@ -23,23 +24,23 @@ enum-told-5 : tie.Need-enum-told-5
 enum-told-5 c = search needs
 
 returns : tie.Need-returns
-unfolding seedOf
+unfolding slotOf slotFrom slotStep kindKey
 returns c = seed-is _ _ (c .enum-told .given .1) refl (omega arith)
 
 returns-2 : tie.Need-returns-2
-unfolding seedOf
+unfolding slotOf slotFrom slotStep kindKey
 returns-2 c = seed-is _ _ (c .enum-told2 .given .1) refl (omega arith)
 
 returns-3 : tie.Need-returns-3
-unfolding seedOf
+unfolding slotOf slotFrom slotStep kindKey
 returns-3 c = seed-is _ _ (c .enum-told3 .given .1) refl (omega arith)
 
 returns-4 : tie.Need-returns-4
-unfolding seedOf
+unfolding slotOf slotFrom slotStep kindKey
 returns-4 c = seed-is _ _ (c .enum-told4 .given .1) refl (omega arith)
 
 returns-5 : tie.Need-returns-5
-unfolding seedOf
+unfolding slotOf slotFrom slotStep kindKey
 returns-5 c = seed-is _ _ (c .enum-told5 .given .1) refl (omega arith)
 
 pub seed-spec : {M : Type 1} → statement M

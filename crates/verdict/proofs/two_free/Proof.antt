@@ -38,7 +38,7 @@ value-free-requires c κs =
     let l = e .before .before .before .before .args .line .now in
     let x = e .end-of .result in
     let v : ValueOk (take (length l - (x + 1)) (drop (x + 1) l)) = rw (all-from (x + 1) l) (fields e .value) in
-    (e .before .before .before .before .pre .0, v .three, v .free)
+    (e .before .before .before .before .pre .0, v .three)
 
 returns : tie.Need-returns
 returns c =

@@ -3,7 +3,7 @@ use native.Mathlib.Omega.{arith}
 use mathlib.Core.Path.{sym, ap, _∙_}
 use lib.Seq.{length-take-le}
 use Rattle.rows.specs.declared.AliasKind.the-variants.{Script, Region}
-use Rattle.verdict.specs.Marks.{isKey}
+use Rattle.verdict.specs.Keys.{isKey}
 use Rattle.verdict.proofs.Frees as frees
 use borrow.Author.Needs.{needs}
 use Rattle.verdict.proofs.value_free.Statement.{statement}
@@ -18,7 +18,7 @@ slice-aggregate-is-key c = let t = c .before .three-of .ensures in sym (length-t
 is-key-requires : tie.Need-is-key-requires
 is-key-requires c κs =
     let s = c .before .before .before .before .before in
-    (s .pre .0, frees.language-plain _ _ (c .before .three-of .ensures) (s .pre .1) (s .pre .2))
+    (s .pre .0, frees.language-short _ _ (c .before .three-of .ensures) (s .pre .1))
 
 returns : tie.Need-returns
 returns c =
@@ -32,7 +32,7 @@ is-key-requires-2 : tie.Need-is-key-requires-2
 is-key-requires-2 c κs =
     let t = c .before .before .before .before in
     let s = t .before .before .before .before in
-    (s .pre .0, rw (c .part .ensures) (frees.script-plain _ _ (t .three-of .ensures) (s .pre .1) (s .pre .2)))
+    (s .pre .0, rw (c .part .ensures) (frees.script-short _ _ (t .three-of .ensures) (s .pre .1)))
 
 returns-2 : tie.Need-returns-2
 returns-2 c =
@@ -49,7 +49,7 @@ is-key-requires-3 : tie.Need-is-key-requires-3
 is-key-requires-3 c κs =
     let t = c .before .before .before .before .before .before .before in
     let s = t .before .before .before .before in
-    (s .pre .0, rw (c .part2 .ensures) (frees.region-plain _ _ (t .three-of .ensures) (s .pre .1) (s .pre .2)))
+    (s .pre .0, rw (c .part2 .ensures) (frees.region-short _ _ (t .three-of .ensures) (s .pre .1)))
 
 returns-3 : tie.Need-returns-3
 returns-3 c =
