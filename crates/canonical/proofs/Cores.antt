@@ -21,9 +21,10 @@ use Rattle.reader.specs.declared.Parts.{Parts as ReaderParts}
 use Rattle.reader.specs.Cuts.{Cuts, cutsOf}
 use Rattle.reader.specs.Parts.{partsOf}
 use Rattle.table.specs.Lines.{endOf}
+use Rattle.subtag.specs.Bytes.{raised}
 use Rattle.canonical.specs.declared.three.Ends.{Ends}
 use Rattle.canonical.specs.Section.{led}
-use Rattle.canonical.specs.Alias.{raised, replacedBy, aliasedPart}
+use Rattle.canonical.specs.Alias.{replacedBy, aliasedPart}
 use Rattle.canonical.specs.Three.{endsOf, between, afterSeparator, scriptStart, scriptEnd, scriptBytes, regionBytes, languageLookup, languageWord, canonicalThree}
 use Rattle.canonical.proofs.Cuts.{part-led}
 use Rattle.canonical.proofs.Keyed.{front-in}

@@ -16,7 +16,7 @@ use Rattle.standard.specs.Reading.{optional, split, root, isX, upTo, find, core
 use Rattle.standard.specs.Table.{languageKey}
 use Rattle.standard.proofs.Tags.{same-eq}
 use Rattle.standard.proofs.Bytes.{clash, bool-cases}
-use Rattle.subtag.specs.Bytes.{tidyByte}
+use Rattle.subtag.specs.Bytes.{tidyByte, raised}
 use Rattle.subtag.specs.Subtags.{PlainTag}
 use Rattle.subtag.proofs.Walk.{le-or-lt}
 use Rattle.reader.specs.declared.Start.{Start}
@@ -25,10 +25,9 @@ use Rattle.reader.specs.Cuts.{Cuts, languageCut, cutsAfter, cutsOf}
 use Rattle.reader.specs.declared.Parts.{Parts as ReaderParts}
 use Rattle.reader.specs.Parts.{startOf, partsOf}
 use Rattle.canonical.specs.Section.{led, Plain}
-use Rattle.canonical.specs.Alias.{raised}
 use Rattle.canonical.specs.Three.{between, afterSeparator, scriptStart, languageLookup}
 use Rattle.canonical.proofs.Stages.{Region}
-use Rattle.canonical.proofs.Raised.{raised-title, raised-upper}
+use Rattle.subtag.proofs.Raised.{raised-title, raised-upper}
 use Rattle.canonical.proofs.Keyed.{led-none}
 use Rattle.canonical.proofs.Places.{behind, at-once, start-first, start-later}
 use Rattle.canonical.proofs.Cuts.{part-led, Cut, cut-one, Accepted, accepted, firstTag, otherTags, Core, a-language, the-root, a-script, Parts, parts-at, first-is, before-is}

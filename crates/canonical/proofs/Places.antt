@@ -9,8 +9,8 @@ use lib.ListN.{length, take, drop, length-take}
 use borrow.Author.Tests.{le-leb, lt-leb, lt-ltb, le-ltb, eq-eqb, ne-eqb}
 use Rattle.standard.specs.Tag.{pick}
 use Rattle.standard.specs.Table.{scriptKey, regionKey}
-use Rattle.subtag.specs.Bytes.{tidyByte}
-use Rattle.canonical.specs.Alias.{raised, aliasedPart}
+use Rattle.subtag.specs.Bytes.{tidyByte, raised}
+use Rattle.canonical.specs.Alias.{aliasedPart}
 use Rattle.canonical.specs.Three.{afterSeparator, scriptStart, scriptEnd, scriptBytes, regionBytes}
 
 pub behind : (at end : ℕ) → at < end → afterSeparator at end ≡ at + 1

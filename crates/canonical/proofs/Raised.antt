@@ -1,18 +1,14 @@
--- Laws of capitals at the front of a subtag, and of bytes stored one by one. Assumes nothing.
-use mathlib.Core.Path.{_≡_, refl, sym, ap, ap₂, _∙_}
-use mathlib.Core.Bool.{Bool, true, false, cond}
-use mathlib.Core.List.{List, [], _∷_, _++_, map}
-use Prim.Native.Nat.{ℕ, zero, suc, _+_, _-_, _≤_, _<_}
-use native.Mathlib.Numerals.{add-one}
+-- Laws of bytes stored one by one, and of the first that is present of two subtags. Assumes nothing.
+use mathlib.Core.Path.{_≡_, refl, sym, ap, _∙_}
+use mathlib.Core.List.{List, [], _∷_, map}
+use Prim.Native.Nat.{ℕ, _+_, _≤_, _<_}
 use native.Mathlib.Omega.{arith}
-use lib.Dec.{ltb}
-use lib.ListN.{length, getD, take, drop, set, length-map}
-use lib.Seq.{sets, take-suc, take-all, length-take-le}
-use borrow.Author.Tests.{lt-ltb, le-ltb, ltb-true, ltb-false}
+use lib.ListN.{length, getD, take, set}
+use lib.Seq.{sets, take-all}
 use Rattle.standard.specs.Tag.{Tag, pick}
-use Rattle.standard.specs.Grammar.{upperByte, title, upper}
-use Rattle.subtag.proofs.Stores.{sets-append, map-append, store-next}
-use Rattle.canonical.specs.Alias.{raised, raisedByte}
+use Rattle.subtag.specs.Bytes.{raised}
+use Rattle.subtag.proofs.Raised.{raised-length, raised-nil}
+use Rattle.subtag.proofs.Stores.{store-next}
 
 map-id : (x : List ℕ) → map (λ (b : ℕ). b) x ≡ x
 map-id [] = refl
@@ -25,67 +21,6 @@ stored l o at x i b e d h =
 
 pub stored-all : (l : List ℕ) (at : ℕ) (x : List ℕ) (i : ℕ) → length x ≤ i → sets l at (take i x) ≡ sets l at x
 stored-all l at x i h = ap (sets l at) (take-all i x h)
-
-pub raised-length : (n : ℕ) (t : Tag) → length (raised n t) ≡ length t
-unfolding raised
-raised-length zero t = refl
-raised-length (suc n) [] = refl
-raised-length (suc n) (b ∷ bs) = ap suc (raised-length n bs)
-
-raised-nil : (n : ℕ) → raised n [] ≡ []
-unfolding raised
-raised-nil zero = refl
-raised-nil (suc n) = refl
-
-shift : (i n : ℕ) → ltb i n ≡ ltb (suc i) (suc n)
-shift i n = go (ltb i n) refl
-  where
-    go : (b : Bool) → ltb i n ≡ b → b ≡ ltb (suc i) (suc n)
-    go true e = sym (lt-ltb (suc i) (suc n) (omega (arith, ltb-true i n e)))
-    go false e = sym (le-ltb (suc i) (suc n) (omega (arith, ltb-false i n e)))
-
-raised-more : (n : ℕ) (x : List ℕ) (b : ℕ) → raised n (x ++ (b ∷ [])) ≡ raised n x ++ (raisedByte (length x) n b ∷ [])
-unfolding raised raisedByte
-raised-more zero x b = ap (λ (c : Bool). x ++ (cond c (upperByte b) b ∷ [])) (sym (le-ltb (length x) 0 (omega arith)))
-raised-more (suc n) [] b = ap (_∷_ (upperByte b)) (raised-nil n) ∙ ap (λ (c : Bool). cond c (upperByte b) b ∷ []) (sym (lt-ltb 0 (suc n) (omega arith)))
-raised-more (suc n) (a ∷ x) b =
-    ap (_∷_ (upperByte a)) (raised-more n x b) ∙ ap (λ (c : Bool). upperByte a ∷ (raised n x ++ (cond c (upperByte b) b ∷ []))) (shift (length x) n)
-
--- one byte more, in its case
-pub raised-next : (f : ℕ → ℕ) (n : ℕ) (l o : List ℕ) (at : ℕ) (x : List ℕ) (i b : ℕ) → o ≡ sets l at (raised n (map f (take i x))) → b ≡ raisedByte i n (f (getD x i 0)) → i < length x
-    → set o (at + i) b ≡ sets l at (raised n (map f (take (i + 1) x)))
-raised-next f n l o at x i b e d h =
-    let t = map f (take i x) in
-    let z : length t ≡ i = length-map (take i x) f ∙ length-take-le i x (omega arith) in
-    let y : length (raised n t) ≡ i = raised-length n t ∙ z in
-    let m : raised n (map f (take (i + 1) x)) ≡ raised n t ++ (raisedByte i n (f (getD x i 0)) ∷ []) =
-    ap (raised n) (rw (add-one, take-suc x i 0) (map-append f (take i x) (getD x i 0 ∷ []))) ∙ raised-more n t (f (getD x i 0)) ∙ ap (λ (k : ℕ). raised n t ++ (raisedByte k n (f (getD x i 0)) ∷ [])) z in
-    ap₂ (λ (q : List ℕ) (c : ℕ). set q (at + i) c) e d
-    ∙ sym (ap (sets l at) m ∙ sets-append l at (raised n t) (raisedByte i n (f (getD x i 0)) ∷ []) ∙ ap (λ (k : ℕ). set (sets l at (raised n t)) (at + k) (raisedByte i n (f (getD x i 0)))) y)
-
-pub raised-all : (f : ℕ → ℕ) (n : ℕ) (l : List ℕ) (at : ℕ) (x : List ℕ) (i : ℕ) → length x ≤ i → sets l at (raised n (map f (take i x))) ≡ sets l at (raised n (map f x))
-raised-all f n l at x i h = ap (λ (y : List ℕ). sets l at (raised n (map f y))) (take-all i x h)
-
-pub raised-yes : (i n b r : ℕ) → i < n → r ≡ upperByte b → r ≡ raisedByte i n b
-unfolding raisedByte
-raised-yes i n b r h e = e ∙ ap (λ (c : Bool). cond c (upperByte b) b) (sym (lt-ltb i n h))
-
-pub raised-no : (i n b : ℕ) → n ≤ i → b ≡ raisedByte i n b
-unfolding raisedByte
-raised-no i n b h = ap (λ (c : Bool). cond c (upperByte b) b) (sym (le-ltb i n h))
-
--- scripts and regions
-pub raised-title : (t : Tag) → raised 1 t ≡ title t
-unfolding raised title
-raised-title [] = refl
-raised-title (b ∷ bs) = refl
-
-pub raised-upper : (n : ℕ) (t : Tag) → length t ≤ n → raised n t ≡ upper t
-unfolding raised upper
-raised-upper zero [] h = refl
-raised-upper zero (b ∷ bs) h = absurd (omega arith)
-raised-upper (suc n) [] h = refl
-raised-upper (suc n) (b ∷ bs) h = ap (_∷_ (upperByte b)) (raised-upper n bs (omega arith))
 
 -- the first that is present, of a raised one
 pub pick-none : (n : ℕ) (t y : Tag) → length t ≡ 0 → pick (raised n t) y ≡ y
@@ -100,9 +35,6 @@ pick-some n t y h = go (raised n t) (omega (arith, raised-length n t))
     go : (x : Tag) → 0 < length x → pick x y ≡ x
     go [] h = absurd (omega arith)
     go (b ∷ bs) h = refl
-
-pub raised-start : (f : ℕ → ℕ) (n : ℕ) (l : List ℕ) (at : ℕ) → l ≡ sets l at (raised n (map f []))
-raised-start f n l at = ap (sets l at) (sym (raised-nil n))
 
 pub pick-small : (m n : ℕ) (t y : Tag) → length t ≤ m → length y ≤ m → length (pick (raised n t) y) ≤ m
 unfolding pick

@@ -9,12 +9,12 @@ use Rattle.standard.specs.Tag.{Tag, label, pick}
 use Rattle.standard.specs.Reading.{split, afterFirst}
 use Rattle.standard.specs.Table.{variantKey}
 use Rattle.subtag.specs.declared.Subtag.{Subtag}
-use Rattle.subtag.specs.Bytes.{tidyByte}
+use Rattle.subtag.specs.Bytes.{tidyByte, raised}
 use Rattle.subtag.specs.Subtags.{subtagOf, PlainTag}
 use Rattle.subtag.proofs.Stores.{sets-append}
 use Rattle.subtag.proofs.Walk.{judged-fits}
 use Rattle.canonical.specs.Section.{tagsOf, led, Led, Plain}
-use Rattle.canonical.specs.Alias.{raised, aliasedPart}
+use Rattle.canonical.specs.Alias.{aliasedPart}
 use Rattle.canonical.specs.Variants.{resolved}
 use Rattle.canonical.proofs.Walk.{Step, tidied, tags-end}
 use Rattle.canonical.proofs.Picks.{Stepped, stepped}

@@ -1,24 +1,11 @@
 -- What an alias table makes of one subtag, by the key of its lookup. Assumes nothing.
-use mathlib.Core.Bool.{cond}
 use mathlib.Core.List.{List, [], _∷_, _++_}
 use mathlib.Core.Option.{Option, none, some}
-use Prim.Native.Nat.{ℕ, zero, suc}
-use lib.Dec.{ltb}
+use Prim.Native.Nat.{ℕ}
 use Rattle.standard.specs.Tag.{Tag}
-use Rattle.standard.specs.Grammar.{upperByte}
 use Rattle.standard.specs.Reading.{optional}
 use Rattle.standard.specs.Table.{lookup, rows}
 use Rattle.canonical.specs.Section.{led}
-
--- the first so many bytes as capitals: one for a script, all for a region
-unfoldable pub raised : ℕ → Tag → Tag
-raised zero t = t
-raised (suc n) [] = []
-raised (suc n) (b ∷ bs) = upperByte b ∷ raised n bs
-
--- the byte at an index, of which the first so many are capitals
-unfoldable pub raisedByte : ℕ → ℕ → ℕ → ℕ
-raisedByte i n b = cond (ltb i n) (upperByte b) b
 
 -- a row's value in place of the subtag
 unfoldable pub replacedBy : Option (List ℕ) → Tag → Tag

@@ -9,9 +9,9 @@ use Rattle.standard.specs.Tag.{Tag, pick}
 use Rattle.standard.specs.Identifier.{Three, part, aliased}
 use Rattle.standard.specs.Reading.{split, identifierOf}
 use Rattle.standard.specs.Table.{lookup, rows, languageKey, scriptKey, regionKey, tablesOf}
-use Rattle.subtag.specs.Bytes.{tidyByte}
+use Rattle.subtag.specs.Bytes.{tidyByte, raised}
 use Rattle.canonical.specs.declared.three.Ends.{Ends}
-use Rattle.canonical.specs.Alias.{raised, replacedBy, aliasedPart}
+use Rattle.canonical.specs.Alias.{replacedBy, aliasedPart}
 
 -- where the three end when they are printed
 unfoldable pub endsOf : Three → Ends

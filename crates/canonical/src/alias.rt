@@ -1,6 +1,5 @@
 // One subtag through the alias table: the key of its lookup is the kind's name, a tab and the subtag in canonical case.
-use subtag::tidy;
-use subtag::upper;
+use subtag::put_raised;
 use table::hints::lookup_hinted;
 ghost use mathlib.Core.Path.{_≡_};
 ghost use mathlib.Core.List.{map};
@@ -8,12 +7,12 @@ ghost use Prim.Native.Nat.{_+_, _≤_};
 ghost use lib.ListN.{length, drop};
 ghost use lib.Seq.{sets};
 ghost use Rattle.standard.specs.Tag.{pick};
-ghost use Rattle.subtag.specs.Bytes.{tidyByte};
+ghost use Rattle.subtag.specs.Bytes.{tidyByte, raised};
 ghost use Rattle.standard.specs.Reading.{optional};
 ghost use Rattle.standard.specs.Table.{lookup, rows};
 ghost use Rattle.table.specs.Hints.{Indexed};
 ghost use Rattle.canonical.specs.Section.{led};
-ghost use Rattle.canonical.specs.Alias.{raised, raisedByte, replacedBy, aliasedPart};
+ghost use Rattle.canonical.specs.Alias.{replacedBy, aliasedPart};
 
 // Writes src at the place at, and gives the next place.
 pub fn put(src: &[u8], out: &mut [u8], at: usize) -> usize
@@ -23,29 +22,6 @@ pub fn put(src: &[u8], out: &mut [u8], at: usize) -> usize
     let mut i = 0;
     while i < src.len() {
         out[at + i] = src[i];
-        i += 1;
-    }
-    at + i
-}
-
-// The byte at the index i, of which the first count are to be capitals.
-fn raise(b: u8, i: usize, count: usize) -> u8
-    ensures { λ r. ⌜ r ≡ raisedByte i count b ⌝ }
-{
-    if i < count {
-        return upper(b);
-    }
-    b
-}
-
-// Writes src in lower case but for its first count bytes, which become capitals.
-fn put_raised(src: &[u8], count: usize, out: &mut [u8], at: usize) -> usize
-    requires { ⌜ at + length (now src) ≤ length (now out) ⌝ }
-    ensures { λ r. ⌜ (r ≡ at + length (now (src .entry))) × (now (out .exit) ≡ sets (now (out .entry)) at (raised count (map tidyByte (now (src .entry))))) ⌝ }
-{
-    let mut i = 0;
-    while i < src.len() {
-        out[at + i] = raise(tidy(src[i]), i, count);
         i += 1;
     }
     at + i

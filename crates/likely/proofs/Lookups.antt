@@ -1,25 +1,23 @@
 -- Laws that the functions' proofs cite. Assumes nothing.
 use mathlib.Core.Path.{_≡_, refl, sym, ap, ap₂, _∙_}
 use mathlib.Core.Bool.{Bool, true, false, cond, not, _&&_}
-use mathlib.Core.List.{List, [], _∷_, _++_, append-nil}
-use Prim.Native.Nat.{ℕ, zero, suc, _+_, _-_, _≤_, _<_}
+use mathlib.Core.List.{[], _∷_, _++_, append-nil}
+use Prim.Native.Nat.{ℕ, _+_, _-_, _≤_, _<_}
 use native.Mathlib.Omega.{arith}
 use native.Mathlib.Numerals.{add-one}
 use borrow.Author.Tests.{eq-eqb, ne-eqb, le-leb, lt-leb}
-use lib.Dec.{isEq, eqb, leb, leb→le}
+use lib.Dec.{eqb, leb, leb→le}
 use mathlib.Core.Option.{Option, none, some}
 use lib.ListN.{length, getD, take, drop, drop-of-length-le, length-append, length-drop}
 use lib.Seq.{take-all, take-nil, drop-cons, sets, sets-eq, take-append-seam}
-use Rattle.standard.specs.Tag.{Tag, order, same, pick, present}
+use Rattle.standard.specs.Tag.{same, pick, present}
 use Rattle.standard.specs.Identifier.{und}
 use Rattle.standard.specs.Delivery.{Bytes}
-use Rattle.standard.specs.Table.{Found as Located, after, lookup, rows, locatedFrom, located}
+use Rattle.standard.specs.Table.{lookup, rows, located}
 use Rattle.standard.proofs.Bytes.{clash, true→T, and-true, bool-cases}
 use Rattle.table.specs.Lines.{valueOf, valueOr, isFound}
 use Rattle.table.proofs.Lines.{value-located, found-located}
 use Rattle.subtag.proofs.Stores.{sets-append}
-use Rattle.subtag.specs.Subtags.{orderOf}
-use Rattle.subtag.specs.declared.Order.{Order}
 use Rattle.likely.specs.Kept.{keptParts}
 use Rattle.likely.specs.declared.three.Kept.the-variants.{Neither, Region, Script, Both}
 use Rattle.likely.specs.Parts.{Parts, Ready, dashFrom, dash, cutAt, cutParts, overParts, overValue, fillParts, filledBy, fitsValue, fitsParts, minimalParts, knownPart, languageOf, completeParts, parts3, orValue, shorterValue, rowValue}

@@ -5,3 +5,4 @@ pub mod Stores
 pub mod Orders
 pub mod Keys
 pub mod Shapes
+pub mod Raised

@@ -1,8 +1,11 @@
 -- The class of a byte, by the standard's ranges.
 -- Assumes nothing.
 use mathlib.Core.Bool.{Bool, true, false, cond}
-use Prim.Native.Nat.{ℕ}
-use Rattle.standard.specs.Grammar.{small, capital, digit, separator, lowerByte}
+use mathlib.Core.List.{[], _∷_}
+use Prim.Native.Nat.{ℕ, zero, suc}
+use lib.Dec.{ltb}
+use Rattle.standard.specs.Tag.{Tag}
+use Rattle.standard.specs.Grammar.{small, capital, digit, separator, lowerByte, upperByte}
 use Rattle.subtag.specs.declared.Class.{Class}
 use Rattle.subtag.specs.declared.Class.the-variants.{Small, Capital, Digit, Separator, Other}
 
@@ -60,3 +63,13 @@ digitOf Other = 0
 -- in lower case; a separator is '-'
 unfoldable pub tidyByte : ℕ → ℕ
 tidyByte b = cond (separator b) 45 (lowerByte b)
+
+-- the first so many bytes as capitals: one for a script, all for a region
+unfoldable pub raised : ℕ → Tag → Tag
+raised zero t = t
+raised (suc n) [] = []
+raised (suc n) (b ∷ bs) = upperByte b ∷ raised n bs
+
+-- the byte at an index, of which the first so many are capitals
+unfoldable pub raisedByte : ℕ → ℕ → ℕ → ℕ
+raisedByte i n b = cond (ltb i n) (upperByte b) b

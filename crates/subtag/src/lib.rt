@@ -8,7 +8,7 @@ ghost use lib.Seq.{sets};
 ghost use Rattle.standard.specs.Tag.{label, order, same as sameTag};
 ghost use Rattle.standard.specs.Grammar.{lowerByte, upperByte, separator, small, capital, digit as digitByte};
 ghost use Rattle.standard.specs.Reading.{split};
-ghost use Rattle.subtag.specs.Bytes.{classOf, isSeparator, letterOf, digitOf, tidyByte};
+ghost use Rattle.subtag.specs.Bytes.{classOf, isSeparator, letterOf, digitOf, tidyByte, raised, raisedByte};
 ghost use Rattle.subtag.specs.Subtags.{firstByte, subtagOf, orderOf};
 ghost use Rattle.subtag.specs.Kinds.{languageFrom, kindFrom, kindIs, keywordFrom, fieldFrom};
 
@@ -203,6 +203,29 @@ pub fn put_tidy(src: &[u8], out: &mut [u8], at: usize) -> usize
     let mut i = 0;
     while i < src.len() {
         out[at + i] = tidy(src[i]);
+        i += 1;
+    }
+    at + i
+}
+
+// The byte at the index i, of which the first count are to be capitals.
+fn raise(b: u8, i: usize, count: usize) -> u8
+    ensures { λ r. ⌜ r ≡ raisedByte i count b ⌝ }
+{
+    if i < count {
+        return upper(b);
+    }
+    b
+}
+
+// Writes src in lower case but for its first count bytes, which become capitals: one for title case, all for upper case.
+pub fn put_raised(src: &[u8], count: usize, out: &mut [u8], at: usize) -> usize
+    requires { ⌜ at + length (now src) ≤ length (now out) ⌝ }
+    ensures { λ r. ⌜ (r ≡ at + length (now (src .entry))) × (now (out .exit) ≡ sets (now (out .entry)) at (raised count (map tidyByte (now (src .entry))))) ⌝ }
+{
+    let mut i = 0;
+    while i < src.len() {
+        out[at + i] = raise(tidy(src[i]), i, count);
         i += 1;
     }
     at + i

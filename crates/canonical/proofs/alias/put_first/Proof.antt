@@ -6,8 +6,8 @@ use Prim.Native.Nat.{ℕ, _+_}
 use lib.ListN.{length, length-map}
 use lib.Seq.{sets}
 use Rattle.standard.specs.Tag.{Tag, pick}
-use Rattle.subtag.specs.Bytes.{tidyByte}
-use Rattle.canonical.specs.Alias.{raised as raisedTag}
+use Rattle.subtag.specs.Bytes.{tidyByte, raised as raisedTag}
+use Rattle.subtag.proofs.Raised.{raised-length}
 use Rattle.canonical.proofs.Raised as raised
 use borrow.Author.Needs.{needs}
 use Rattle.canonical.proofs.alias.put_first.Statement.{statement}
@@ -15,7 +15,7 @@ use Rattle.canonical.proofs.alias.put_first.Tie as tie
 use Rattle.canonical.proofs.alias.put_first.Reads as reads
 use Rattle.canonical.proofs.alias.put_first.Lts as lts
 use Rattle.canonical.proofs.alias.put.Reads as put-reads
-use Rattle.canonical.proofs.alias.put_raised.Reads as put-raised-reads
+use Rattle.subtag.proofs.put_raised.Reads as put-raised-reads
 
 -- src/alias.rt:54:9
 put-requires : tie.Need-put-requires
@@ -51,7 +51,7 @@ returns-2 c =
     let z = length-map (a .given .now) tidyByte in
     let t = raisedTag (a .count) (map tidyByte (a .given .now)) in
     let e = raised.pick-some (a .count) (map tidyByte (a .given .now)) (a .brought .now) (omega arith) in
-    let k : length t ≡ length (a .given .now) = raised.raised-length (a .count) (map tidyByte (a .given .now)) ∙ z in
+    let k : length t ≡ length (a .given .now) = raised-length (a .count) (map tidyByte (a .given .now)) ∙ z in
     (p .put-raised .ensures .0 ∙ ap (λ (m : ℕ). a .at + m) (sym k) ∙ ap (λ (t : Tag). a .at + length t) (sym e), p .put-raised .ensures .1 ∙ ap (sets (a .out .now) (a .at)) (sym e))
 
 pub put-first-spec : {M : Type 1} → statement M

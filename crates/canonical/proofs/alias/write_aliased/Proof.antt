@@ -8,9 +8,9 @@ use lib.Seq.{sets}
 use Rattle.standard.specs.Tag.{Tag, pick}
 use Rattle.standard.specs.Reading.{optional}
 use Rattle.standard.specs.Table.{lookup, rows}
-use Rattle.subtag.specs.Bytes.{tidyByte}
+use Rattle.subtag.specs.Bytes.{tidyByte, raised as raisedTag}
 use Rattle.canonical.specs.Section.{led}
-use Rattle.canonical.specs.Alias.{raised as raisedTag, replacedBy, aliasedPart}
+use Rattle.canonical.specs.Alias.{replacedBy, aliasedPart}
 use Rattle.canonical.proofs.Raised as raised
 use Rattle.canonical.proofs.Keyed as keys
 use borrow.Author.Needs.{needs}
