@@ -6,54 +6,22 @@ ghost use mathlib.Core.Path.{_≡_};
 ghost use Prim.Native.Nat.{_≤_};
 ghost use lib.ListN.{length};
 
-// Prints the row of a line.
-fn print_row(line: &[u8]) -> bool {
-    let row = inspection::row_of(line);
-    let n = row.len;
-    let bytes = row.bytes;
-    io::write_all(STDOUT_FILENO, &bytes[..n])
-}
-
-// One byte: 0A prints the row of the line, any other is kept in it, as far as it goes.
-fn take(line: &mut [u8], n: usize, b: u8) -> usize
-    requires { ⌜ (n ≤ 256) × (length (now line) ≡ 256) ⌝ }
-    ensures { λ r. ⌜ r ≤ 256 ⌝ }
+// Prints the rows of the lines of a piece, as many at a time as have room in out.
+fn print_rows(piece: &[u8], out: &mut [u8])
+    requires { ⌜ 512 ≤ length (now out) ⌝ }
 {
-    if b == b'\n' {
-        print_row(&line[..n]);
-        return 0;
-    }
-    if n < 256 {
-        line[n] = b;
-        return n + 1;
-    }
-    n
-}
-
-// All bytes of a block, after a line of which so many bytes are kept.
-fn feed(block: &[u8], line: &mut [u8], kept: usize) -> usize
-    requires { ⌜ (kept ≤ 256) × (length (now line) ≡ 256) ⌝ }
-    ensures { λ r. ⌜ r ≤ 256 ⌝ }
-{
-    let mut n = kept;
-    let mut i = 0;
-    while i < block.len() {
-        n = take(line, n, block[i]);
-        i += 1;
-    }
-    n
-}
-
-// Bytes after the last 0A are a line unless there are none.
-fn print_last(line: &[u8]) {
-    if line.len() > 0 {
-        print_row(line);
+    let mut from: usize = 0;
+    while from < piece.len() {
+        let w = inspection::rows_of(&piece[from..], out);
+        let len = w.len;
+        io::write_all(STDOUT_FILENO, &out[..len]);
+        from += w.used;
     }
 }
 
 // Reads to the end of the input. A proved loop has to end, so it counts its turns down from a number that no run uses up.
-fn print_rows(block: &mut [u8], line: &mut [u8])
-    requires { ⌜ length (now line) ≡ 256 ⌝ }
+fn answer_input(block: &mut [u8], piece: &mut [u8], out: &mut [u8])
+    requires { ⌜ (length (now block) ≡ 65536) × (length (now piece) ≡ 65792) × (512 ≤ length (now out)) ⌝ }
 {
     let mut kept: usize = 0;
     let mut turns = u64::MAX;
@@ -61,12 +29,22 @@ fn print_rows(block: &mut [u8], line: &mut [u8])
         let got = libc::read(STDIN_FILENO, block);
         let n = io::count(got, block);
         if n == 0 {
-            print_last(&line[..kept]);
+            print_rows(&piece[..kept], out);
             return;
         }
-        kept = feed(&block[..n], line, kept);
+        let t = lines::take_in(&block[..n], piece, kept);
+        let whole = t.whole;
+        print_rows(&piece[..whole], out);
+        kept = lines::keep_rest(piece, whole, t.end);
         turns -= 1;
     }
+}
+
+// Room for a block of input behind an unfinished line.
+fn piece_buffer() -> [u8; 65792]
+    ensures { λ r. ⌜ 65792 ≡ length r ⌝ }
+{
+    [0; 65792]
 }
 
 fn main() {
@@ -75,6 +53,7 @@ fn main() {
         b"asked\tnumber\tplace\tlanguage\tscript\tregion\tvariants\textensions\n",
     );
     let mut block = io::large_buffer();
-    let mut line = [0u8; 256];
-    print_rows(&mut block, &mut line);
+    let mut piece = piece_buffer();
+    let mut out = io::large_buffer();
+    answer_input(&mut block, &mut piece, &mut out);
 }

@@ -1,35 +1,19 @@
 -- The rows of `inspect`: asked, number, place, language, script, region, variants, extensions, parted by tabs, with `-`
 -- where there is none. Assumes nothing.
-use mathlib.Core.Bool.{cond, _||_}
 use mathlib.Core.List.{List, [], _∷_, _++_}
 use mathlib.Core.Path.{_≡_}
-use Prim.Native.Nat.{ℕ, _+_, _/_, _%_, _≤_, _<_}
-use lib.Dec.{eqb, ltb}
-use lib.ListN.{take}
+use Prim.Native.Nat.{ℕ, _+_, _≤_, _<_}
 use Rattle.standard.specs.Tag.{Tag}
 use Rattle.standard.specs.Report.{Report, report}
-use Rattle.inspection.specs.declared.Row.{Row}
+use Rattle.fields.specs.Fields.{decimal, field, askedOf}
 
 abbrev Bytes : Type 0
 Bytes = List ℕ
 
--- a number below 1,000 in decimal, as every number of a report is
-unfoldable pub decimal : ℕ → Bytes
-decimal n =
-    cond (ltb n 10) ((48 + n % 10) ∷ [])
-    (cond (ltb n 100) ((48 + n / 10 % 10) ∷ (48 + n % 10) ∷ []) ((48 + n / 100) ∷ (48 + n / 10 % 10) ∷ (48 + n % 10) ∷ []))
-
+-- `-` for an absent subtag
 unfoldable pub dashed : Bytes → Bytes
 dashed [] = 45 ∷ []
 dashed (b ∷ bs) = b ∷ bs
-
--- a field and what ends it: a tab, or at the last one 0A
-unfoldable pub field : Bytes → ℕ → Bytes
-field t mark = t ++ (mark ∷ [])
-
--- what was asked; `-` after 2 or 3
-unfoldable pub askedOf : ℕ → Bytes → Bytes
-askedOf n x = cond (eqb n 2 || eqb n 3) (45 ∷ []) x
 
 unfoldable pub whereText : ℕ → ℕ → Bytes
 whereText number place = field (decimal number) 9 ++ field (decimal place) 9
@@ -48,9 +32,6 @@ reportText r x = field (askedOf (r .number) x) 9 ++ fieldsText r
 
 unfoldable pub rowOf : Bytes → Bytes
 rowOf x = reportText (report x) x
-
-unfoldable pub rowIs : Row → Bytes
-rowIs r = take (r .len) (r .bytes)
 
 -- the lesser of a number and 8
 pub record AtMost8 (n r : ℕ) : Type 0 where

@@ -1,44 +1,19 @@
 // The rows that the program `inspect` prints: an identifier as asked, and what reading reports of it.
+use fields::put;
+use fields::put_asked;
+use fields::put_number;
+use lines::next_line;
 use reader::report::Report;
 use reader::report::Word;
+use table::end_of;
 ghost use mathlib.Core.Path.{_≡_};
 ghost use Prim.Native.Nat.{_+_, _≤_, _<_};
 ghost use lib.ListN.{length};
 ghost use lib.Seq.{sets};
 ghost use Rattle.reader.specs.Words.{wordIs, reportIs};
-ghost use Rattle.inspection.specs.Rows.{decimal, dashed, field, AtMost8, askedOf, whereText, threeText, countsText, fieldsText, rowOf, rowIs};
-
-// The text of a row: its first `len` bytes.
-pub struct Row {
-    pub bytes: [u8; 512],
-    pub len: usize,
-}
-
-// A number below 1,000 in decimal.
-fn number_word(n: usize) -> Word
-    requires { ⌜ n < 1000 ⌝ }
-    ensures { λ r. ⌜ wordIs r ≡ decimal n ⌝ }
-{
-    let ones = 48 + (n % 10) as u8;
-    let tens = 48 + (n / 10 % 10) as u8;
-    let hundreds = 48 + (n / 100) as u8;
-    if n < 10 {
-        return Word {
-            bytes: [ones, 0, 0, 0, 0, 0, 0, 0],
-            len: 1,
-        };
-    }
-    if n < 100 {
-        return Word {
-            bytes: [tens, ones, 0, 0, 0, 0, 0, 0],
-            len: 2,
-        };
-    }
-    Word {
-        bytes: [hundreds, tens, ones, 0, 0, 0, 0, 0],
-        len: 3,
-    }
-}
+ghost use Rattle.fields.specs.Fields.{field};
+ghost use Rattle.lines.specs.Pieces.{pieceText, pieceUsed};
+ghost use Rattle.inspection.specs.Rows.{dashed, AtMost8, whereText, threeText, countsText, fieldsText, rowOf};
 
 // `-` for an absent subtag.
 fn dashed_word(w: Word) -> Word
@@ -53,20 +28,6 @@ fn dashed_word(w: Word) -> Word
     w
 }
 
-// Writes src and the mark that ends it at the place at, and gives the next place.
-fn put(src: &[u8], mark: u8, out: &mut [u8], at: usize) -> usize
-    requires { ⌜ at + length (now src) + 1 ≤ length (now out) ⌝ }
-    ensures { λ r. ⌜ (r ≡ at + length (field (now (src .entry)) mark)) × (now (out .exit) ≡ sets (now (out .entry)) at (field (now (src .entry)) mark)) ⌝ }
-{
-    let mut i = 0;
-    while i < src.len() {
-        out[at + i] = src[i];
-        i += 1;
-    }
-    out[at + i] = mark;
-    at + i + 1
-}
-
 fn at_most_8(n: usize) -> usize
     ensures { λ r. ⌜ AtMost8 n r ⌝ }
 {
@@ -76,7 +37,7 @@ fn at_most_8(n: usize) -> usize
     8
 }
 
-// The same of a word.
+// Writes a word and the mark that ends it at the place at, and gives the next place.
 fn put_word(w: Word, mark: u8, out: &mut [u8], at: usize) -> usize
     requires { ⌜ at + 9 ≤ length (now out) ⌝ }
     ensures { λ r. ⌜ (r ≡ at + length (field (wordIs w) mark)) × (now (out .exit) ≡ sets (now (out .entry)) at (field (wordIs w) mark)) × (r ≤ at + 9) ⌝ }
@@ -86,13 +47,6 @@ fn put_word(w: Word, mark: u8, out: &mut [u8], at: usize) -> usize
     put(&bytes[..n], mark, out, at)
 }
 
-fn put_number(n: usize, mark: u8, out: &mut [u8], at: usize) -> usize
-    requires { ⌜ (n < 1000) × (at + 9 ≤ length (now out)) ⌝ }
-    ensures { λ r. ⌜ (r ≡ at + length (field (decimal n) mark)) × (now (out .exit) ≡ sets (now (out .entry)) at (field (decimal n) mark)) × (r ≤ at + 9) ⌝ }
-{
-    put_word(number_word(n), mark, out, at)
-}
-
 fn put_subtag(w: Word, mark: u8, out: &mut [u8], at: usize) -> usize
     requires { ⌜ at + 9 ≤ length (now out) ⌝ }
     ensures { λ r. ⌜ (r ≡ at + length (field (dashed (wordIs w)) mark)) × (now (out .exit) ≡ sets (now (out .entry)) at (field (dashed (wordIs w)) mark)) × (r ≤ at + 9) ⌝ }
@@ -100,23 +54,9 @@ fn put_subtag(w: Word, mark: u8, out: &mut [u8], at: usize) -> usize
     put_word(dashed_word(w), mark, out, at)
 }
 
-// What was asked, or `-`.
-fn put_asked(number: u8, line: &[u8], out: &mut [u8], at: usize) -> usize
-    requires { ⌜ (at + length (askedOf number (now line)) + 1 ≤ length (now out)) × (at + 2 ≤ length (now out)) ⌝ }
-    ensures { λ r. ⌜ (r ≡ at + length (field (askedOf number (now (line .entry))) 9)) × (now (out .exit) ≡ sets (now (out .entry)) at (field (askedOf number (now (line .entry))) 9)) ⌝ }
-{
-    if number == 2 {
-        return put(b"-", 9, out, at);
-    }
-    if number == 3 {
-        return put(b"-", 9, out, at);
-    }
-    put(line, 9, out, at)
-}
-
 fn put_where(number: u8, place: usize, out: &mut [u8], at: usize) -> usize
-    requires { ⌜ (place < 1000) × (at + 18 ≤ length (now out)) ⌝ }
-    ensures { λ r. ⌜ (r ≡ at + length (whereText number place)) × (now (out .exit) ≡ sets (now (out .entry)) at (whereText number place)) × (r ≤ at + 18) ⌝ }
+    requires { ⌜ at + 42 ≤ length (now out) ⌝ }
+    ensures { λ r. ⌜ (r ≡ at + length (whereText number place)) × (now (out .exit) ≡ sets (now (out .entry)) at (whereText number place)) × (r ≤ at + 42) ⌝ }
 {
     let p = put_number(number as usize, 9, out, at);
     put_number(place, 9, out, p)
@@ -132,8 +72,8 @@ fn put_three(language: Word, script: Word, region: Word, out: &mut [u8], at: usi
 }
 
 fn put_counts(variants: usize, extensions: usize, out: &mut [u8], at: usize) -> usize
-    requires { ⌜ (variants < 1000) × (extensions < 1000) × (at + 18 ≤ length (now out)) ⌝ }
-    ensures { λ r. ⌜ (r ≡ at + length (countsText variants extensions)) × (now (out .exit) ≡ sets (now (out .entry)) at (countsText variants extensions)) × (r ≤ at + 18) ⌝ }
+    requires { ⌜ at + 42 ≤ length (now out) ⌝ }
+    ensures { λ r. ⌜ (r ≡ at + length (countsText variants extensions)) × (now (out .exit) ≡ sets (now (out .entry)) at (countsText variants extensions)) × (r ≤ at + 42) ⌝ }
 {
     let p = put_number(variants, 9, out, at);
     put_number(extensions, 10, out, p)
@@ -141,8 +81,8 @@ fn put_counts(variants: usize, extensions: usize, out: &mut [u8], at: usize) -> 
 
 // All fields of a report.
 fn put_report(r: Report, out: &mut [u8], at: usize) -> usize
-    requires { ⌜ (r .place < 1000) × (r .variants < 1000) × (r .extensions < 1000) × (at + 63 ≤ length (now out)) ⌝ }
-    ensures { λ n. ⌜ (n ≡ at + length (fieldsText (reportIs r))) × (now (out .exit) ≡ sets (now (out .entry)) at (fieldsText (reportIs r))) × (n ≤ at + 63) ⌝ }
+    requires { ⌜ at + 111 ≤ length (now out) ⌝ }
+    ensures { λ n. ⌜ (n ≡ at + length (fieldsText (reportIs r))) × (now (out .exit) ≡ sets (now (out .entry)) at (fieldsText (reportIs r))) × (n ≤ at + 111) ⌝ }
 {
     let language = r.language;
     let script = r.script;
@@ -152,27 +92,36 @@ fn put_report(r: Report, out: &mut [u8], at: usize) -> usize
     put_counts(r.variants, r.extensions, out, q)
 }
 
-// Writes the row of a line at the front of out.
-fn write_row(line: &[u8], out: &mut [u8]) -> usize
-    requires { ⌜ 512 ≤ length (now out) ⌝ }
-    ensures { λ r. ⌜ (r ≡ 0 + length (rowOf (now (line .entry)))) × (now (out .exit) ≡ sets (now (out .entry)) 0 (rowOf (now (line .entry)))) × (r ≤ 512) ⌝ }
+// Writes the row of a line at the place at, and gives the next place.
+fn put_row(line: &[u8], out: &mut [u8], at: usize) -> usize
+    requires { ⌜ at + 512 ≤ length (now out) ⌝ }
+    ensures { λ r. ⌜ (r ≡ at + length (rowOf (now (line .entry)))) × (now (out .exit) ≡ sets (now (out .entry)) at (rowOf (now (line .entry)))) × (r ≤ at + 512) ⌝ }
 {
     let r = reader::report::read(line);
-    let asked = put_asked(r.number, line, out, 0);
+    let asked = put_asked(r.number, line, out, at);
     put_report(r, out, asked)
 }
 
-fn room() -> [u8; 512]
-    ensures { λ r. ⌜ length r ≡ 512 ⌝ }
-{
-    [0u8; 512]
+// How many bytes of a piece were answered, and the length of their rows.
+pub struct Written {
+    pub used: usize,
+    pub len: usize,
 }
 
-// The row of a line.
-pub fn row_of(line: &[u8]) -> Row
-    ensures { λ r. ⌜ (rowIs r ≡ rowOf (now (line .entry))) × (r .len ≤ 512) ⌝ }
+// Writes the rows of the lines of a piece at the front of out, as long as 512 bytes are free before each.
+pub fn rows_of(piece: &[u8], out: &mut [u8]) -> Written
+    ensures { λ r. ⌜ (r .used ≡ pieceUsed rowOf 512 (length (now (out .entry))) (now (piece .entry))) × (r .len ≡ length (pieceText rowOf 512 (length (now (out .entry))) (now (piece .entry))))
+        × (now (out .exit) ≡ sets (now (out .entry)) 0 (pieceText rowOf 512 (length (now (out .entry))) (now (piece .entry)))) × (r .used ≤ length (now (piece .entry))) × (r .len ≤ length (now (out .entry))) ⌝ }
 {
-    let mut bytes = room();
-    let len = write_row(line, &mut bytes);
-    Row { bytes, len }
+    let mut at = 0;
+    let mut len = 0;
+    while at < piece.len() {
+        if out.len() - len < 512 {
+            return Written { used: at, len };
+        }
+        let e = end_of(piece, b'\n', at);
+        len = put_row(&piece[at..e], out, len);
+        at = next_line(piece.len(), e);
+    }
+    Written { used: at, len }
 }

@@ -1,1 +1,2 @@
 pub mod Squeeze
+pub mod Pieces

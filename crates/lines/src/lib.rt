@@ -5,6 +5,7 @@ ghost use Prim.Native.Nat.{_+_, _-_, _≤_};
 ghost use lib.ListN.{length, take, drop};
 ghost use lib.Seq.{sets};
 ghost use Rattle.lines.specs.Squeeze.{nextRun, kept, squeezed, runAfter};
+ghost use Rattle.lines.specs.Pieces.{Next};
 
 // Where the whole lines of a piece end, and where the unfinished one behind them does.
 pub struct Taken {
@@ -74,4 +75,14 @@ pub fn keep_rest(piece: &mut [u8], whole: usize, end: usize) -> usize
         i += 1;
     }
     n
+}
+
+// Where the next line starts, in a piece of n bytes, after a line that ends at e.
+pub fn next_line(n: usize, e: usize) -> usize
+    ensures { λ r. ⌜ Next n e r ⌝ }
+{
+    if e < n {
+        return e + 1;
+    }
+    e
 }

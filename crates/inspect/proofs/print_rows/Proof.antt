@@ -1,71 +1,73 @@
 -- `inspect::print_rows` meets its contract. Assumes nothing.
-use borrow.Author.Needs.{needs}
-use mathlib.Core.Path.{_≡_, sym}
-use Prim.Native.Nat.{_≤_}
+use native.Mathlib.Omega.{arith}
+use mathlib.Core.Path.{_≡_, sym, ap, _∙_}
+use Prim.Native.Nat.{_-_, _≤_, _<_}
 use lib.ListN.{length}
-use lib.Seq.{length-take-le}
+use lib.Seq.{length-take-le, length-sets}
+use borrow.Author.Needs.{needs}
+use Rattle.lines.proofs.Pieces as pieces
+use Rattle.inspection.specs.Rows.{rowOf}
 use Rattle.inspect.proofs.print_rows.Statement.{statement}
 use Rattle.inspect.proofs.print_rows.Tie as tie
 
 abbrev Inv-loop : tie.InvT-loop
-Inv-loop block₀ line₀ kept₀ turns₀ block line kept turns = (kept ≤ 256) × (length line ≡ 256) × (length line₀ ≡ 256) × (length block ≡ length block₀)
+Inv-loop piece out₀ from₀ out from = (from ≤ length piece) × (512 ≤ length out) × (length out ≡ length out₀)
 
 abbrev μ-loop : tie.MeasureT-loop
-μ-loop block₀ line₀ kept₀ turns₀ block line kept turns = turns
+μ-loop piece out₀ from₀ out from = length piece - from
 
 loop-holds : tie.Need-loop-holds Inv-loop μ-loop
 loop-holds c = search needs
 
-read-requires : tie.Need-read-requires Inv-loop μ-loop
-read-requires c κs = search needs
+sub-rows-of : tie.Need-sub-rows-of Inv-loop μ-loop
+sub-rows-of c = omega arith
 
-count-requires : tie.Need-count-requires Inv-loop μ-loop
-count-requires c κs = search needs
+part-rows-of-start : tie.Need-part-rows-of-start Inv-loop μ-loop
+part-rows-of-start c = omega arith
 
-slice-reshare-prefix-print-last : tie.Need-slice-reshare-prefix-print-last Inv-loop μ-loop
-slice-reshare-prefix-print-last c = search needs
+part-rows-of-end : tie.Need-part-rows-of-end Inv-loop μ-loop
+part-rows-of-end c = omega arith
 
-slice-aggregate-print-last : tie.Need-slice-aggregate-print-last Inv-loop μ-loop
-slice-aggregate-print-last c = sym (length-take-le _ _ (search needs))
+rows-of-requires : tie.Need-rows-of-requires Inv-loop μ-loop
+rows-of-requires c κs = search needs
 
-print-last-requires : tie.Need-print-last-requires Inv-loop μ-loop
-print-last-requires c κs = search needs
+-- each call gets further, and not past the end
+further : (c : tie.After-rows-of Inv-loop μ-loop) → (0 < c .rows-of .result .used) × (c .rows-of .result .used ≤ length (c .before .before .before .before .before .before .before .args .piece .now) - c .before .before .before .before .loop .from)
+further c =
+    let l = c .before .before .before .before .loop in
+    let x = c .before .before .before .before .before .before .before .args .piece .now in
+    let r = c .rows-of .ensures in
+    (omega (arith, pieces.used-rest rowOf 512 (length (l .out)) x (l .from) (l .inv .1) (c .before .before .before .loop-test .taken), r .0), omega (arith, r .3, pieces.rest-length x (l .from)))
+
+same : (c : tie.After-rows-of Inv-loop μ-loop) → length (c .rows-of .last .1 .0) ≡ length (c .before .before .before .before .loop .out)
+same c = ap length (c .rows-of .ensures .2) ∙ simp length-sets
+
+slice-reshare-prefix-write-all : tie.Need-slice-reshare-prefix-write-all Inv-loop μ-loop
+slice-reshare-prefix-write-all c = omega (arith, same (c .before .before), c .before .before .rows-of .ensures .4)
+
+slice-aggregate-write-all : tie.Need-slice-aggregate-write-all Inv-loop μ-loop
+slice-aggregate-write-all c = sym (length-take-le _ _ (omega (arith, same (c .before .before .before), c .before .before .before .rows-of .ensures .4)))
+
+write-all-requires : tie.Need-write-all-requires Inv-loop μ-loop
+write-all-requires c κs = search needs
+
+add-from : tie.Need-add-from Inv-loop μ-loop
+add-from c = omega (arith, further (c .before .before .before .before .before))
+
+loop-less : tie.Need-loop-less Inv-loop μ-loop
+loop-less c = omega (arith, further (c .before .before .before .before .before))
+
+loop-again : tie.Need-loop-again Inv-loop μ-loop
+loop-again c =
+    let k = c .before .before .before .before .before in
+    let l = k .before .before .before .before .loop in
+    (omega (arith, further k), omega (arith, same k), same k ∙ l .inv .2)
 
 same-length : tie.Need-same-length Inv-loop μ-loop
 same-length c = search needs
 
-same-length-2 : tie.Need-same-length-2 Inv-loop μ-loop
-same-length-2 c = search needs
-
 returns : tie.Need-returns Inv-loop μ-loop
 returns c = search needs
-
-slice-reshare-prefix-feed : tie.Need-slice-reshare-prefix-feed Inv-loop μ-loop
-slice-reshare-prefix-feed c = search needs
-
-slice-aggregate-feed : tie.Need-slice-aggregate-feed Inv-loop μ-loop
-slice-aggregate-feed c = sym (length-take-le _ _ (search needs))
-
-feed-requires : tie.Need-feed-requires Inv-loop μ-loop
-feed-requires c κs = search needs
-
-sub-turns : tie.Need-sub-turns Inv-loop μ-loop
-sub-turns c = search needs
-
-loop-less : tie.Need-loop-less Inv-loop μ-loop
-loop-less c = search needs
-
-loop-again : tie.Need-loop-again Inv-loop μ-loop
-loop-again c = search needs
-
-same-length-3 : tie.Need-same-length-3 Inv-loop μ-loop
-same-length-3 c = search needs
-
-same-length-4 : tie.Need-same-length-4 Inv-loop μ-loop
-same-length-4 c = search needs
-
-returns-2 : tie.Need-returns-2 Inv-loop μ-loop
-returns-2 c = search needs
 
 pub print-rows-spec : {M : Type 1} → statement M
 print-rows-spec =
@@ -74,20 +76,15 @@ print-rows-spec =
     Inv-loop
     μ-loop
     loop-holds
-    read-requires
-    count-requires
-    slice-reshare-prefix-print-last
-    slice-aggregate-print-last
-    print-last-requires
-    same-length
-    same-length-2
-    returns
-    slice-reshare-prefix-feed
-    slice-aggregate-feed
-    feed-requires
-    sub-turns
+    sub-rows-of
+    part-rows-of-start
+    part-rows-of-end
+    rows-of-requires
+    slice-reshare-prefix-write-all
+    slice-aggregate-write-all
+    write-all-requires
+    add-from
     loop-less
     loop-again
-    same-length-3
-    same-length-4
-    returns-2)
+    same-length
+    returns)

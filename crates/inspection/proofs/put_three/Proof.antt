@@ -3,7 +3,8 @@ use native.Mathlib.Omega.{arith}
 use mathlib.Core.Path.{refl}
 use Rattle.subtag.proofs.Stores.{wrote-two}
 use Rattle.reader.specs.Words.{wordIs}
-use Rattle.inspection.specs.Rows.{dashed, field, threeText}
+use Rattle.fields.specs.Fields.{field}
+use Rattle.inspection.specs.Rows.{dashed, threeText}
 use borrow.Author.Needs.{needs}
 use Rattle.inspection.proofs.put_three.Statement.{statement}
 use Rattle.inspection.proofs.put_three.Tie as tie

@@ -2,7 +2,8 @@
 use native.Mathlib.Omega.{arith}
 use mathlib.Core.Path.{refl}
 use Rattle.subtag.proofs.Stores.{wrote-two}
-use Rattle.inspection.specs.Rows.{decimal, field, whereText}
+use Rattle.fields.specs.Fields.{decimal, field}
+use Rattle.inspection.specs.Rows.{whereText}
 use borrow.Author.Needs.{needs}
 use Rattle.inspection.proofs.put_where.Statement.{statement}
 use Rattle.inspection.proofs.put_where.Tie as tie

@@ -3,6 +3,7 @@ use native.Mathlib.Omega.{arith}
 use mathlib.Core.Path.{_≡_, sym}
 use lib.ListN.{length, take}
 use lib.Seq.{length-take-le}
+use Rattle.fields.proofs.Laws as fields
 use Rattle.inspection.proofs.Rows as rows
 use borrow.Author.Needs.{needs}
 use Rattle.inspection.proofs.put_word.Statement.{statement}
@@ -28,7 +29,7 @@ returns c =
     let a = c .before .before .before .before .before .before .before .before .args in
     let e : length (a .w .bytes) ≡ 8 = search needs in
     let h = c .before .before .before .before .before .before .at-most-8 .ensures in
-    let t = rows.field-length (take (c .before .before .before .before .before .before .at-most-8 .result) (a .w .bytes)) (a .mark) in
+    let t = fields.field-length (take (c .before .before .before .before .before .before .at-most-8 .result) (a .w .bytes)) (a .mark) in
     let l = length-take-le (c .before .before .before .before .before .before .at-most-8 .result) (a .w .bytes) (omega arith) in
     let p = c .before .before .put .ensures in
     rw (← (rows.word-bytes (a .w) (c .before .before .before .before .before .before .at-most-8 .result) e (c .before .before .before .before .before .before .at-most-8 .ensures))) (p .0, p .1, omega (arith, p .0))

@@ -1,12 +1,12 @@
--- `inspection::put` meets its contract. Assumes nothing.
+-- `fields::put` meets its contract. Assumes nothing.
 use native.Mathlib.Omega.{arith}
 use mathlib.Core.Path.{_≡_, refl, _∙_}
 use Prim.Native.Nat.{_+_, _-_, _≤_}
 use lib.ListN.{length, take, length-set}
 use lib.Seq.{sets}
-use Rattle.inspection.proofs.Rows as rows
-use Rattle.inspection.proofs.put.Statement.{statement}
-use Rattle.inspection.proofs.put.Tie as tie
+use Rattle.fields.proofs.Laws as laws
+use Rattle.fields.proofs.put.Statement.{statement}
+use Rattle.fields.proofs.put.Tie as tie
 
 abbrev Inv-loop : tie.InvT-loop
 Inv-loop src mark out₀ at i₀ out i = (i ≤ length src) × (length out ≡ length out₀) × (out ≡ sets out₀ at (take i src))
@@ -33,7 +33,7 @@ loop-less : tie.Need-loop-less Inv-loop μ-loop
 loop-less c = omega arith
 
 loop-again : tie.Need-loop-again Inv-loop μ-loop
-loop-again c = let l = c .before .before .loop in let a = c .before .before .before .args in (omega arith, length-set (l .out) (a .at + l .i) _ ∙ l .inv .1, rows.stored (a .out .now) (l .out) (a .at) (a .src .now) (l .i) (l .inv .2) (c .before .loop-test .taken))
+loop-again c = let l = c .before .before .loop in let a = c .before .before .before .args in (omega arith, length-set (l .out) (a .at + l .i) _ ∙ l .inv .1, laws.stored (a .out .now) (l .out) (a .at) (a .src .now) (l .i) (l .inv .2) (c .before .loop-test .taken))
 
 add-out-2 : tie.Need-add-out-2 Inv-loop μ-loop
 add-out-2 c = omega arith
@@ -51,7 +51,7 @@ same-length : tie.Need-same-length Inv-loop μ-loop
 same-length c = let l = c .before .loop in let a = c .before .before .args in length-set (l .out) (a .at + l .i) (a .mark) ∙ l .inv .1
 
 returns : tie.Need-returns Inv-loop μ-loop
-returns c = let l = c .before .loop in let a = c .before .before .args in rows.ended (a .out .now) (l .out) (a .at) (a .src .now) (l .i) (a .mark) (l .inv .2) (c .loop-test .left) (l .inv .0)
+returns c = let l = c .before .loop in let a = c .before .before .args in laws.ended (a .out .now) (l .out) (a .at) (a .src .now) (l .i) (a .mark) (l .inv .2) (c .loop-test .left) (l .inv .0)
 
 pub put-spec : {M : Type 1} → statement M
 put-spec =
