@@ -1,6 +1,6 @@
 -- Laws of fields. Assumes nothing.
 use mathlib.Core.Path.{_≡_, refl, sym, ap, ap₂, _∙_}
-use mathlib.Core.Bool.{Bool, true, false, cond}
+use mathlib.Core.Bool.{Bool, true, false, cond, _||_}
 use mathlib.Core.List.{List, [], _∷_, _++_}
 use Prim.Native.Nat.{ℕ, zero, suc, _+_, _-_, _/_, _%_, _≤_, _<_}
 use native.Mathlib.Omega.{arith}
@@ -98,6 +98,14 @@ module _ (n : ℕ) (x : List ℕ) where
   pub asked-line : (n ≡ 2 → ⊥) → (n ≡ 3 → ⊥) → askedOf n x ≡ x
   unfolding askedOf
   asked-line f g = rw (ne-eqb n 2 f, ne-eqb n 3 g)
+
+pub asked-short : (n : ℕ) (x : List ℕ) → length x ≤ 255 → length (askedOf n x) ≤ 255
+unfolding askedOf
+asked-short n x h = go (eqb n 2 || eqb n 3)
+  where
+    go : (b : Bool) → length (cond b (45 ∷ []) x) ≤ 255
+    go true = omega arith
+    go false = h
 
 pub field-length : (x : List ℕ) (mark : ℕ) → length (field x mark) ≡ length x + 1
 unfolding field

@@ -1,11 +1,9 @@
 -- What is printed as asked has at most 255 bytes, and so a row has room. Assumes nothing.
 use mathlib.Core.Path.{_≡_, refl, sym, ap}
-use mathlib.Core.Bool.{Bool, true, false, cond, _||_}
-use mathlib.Core.List.{List, [], _∷_, _++_}
+use mathlib.Core.List.{List, _++_}
 use mathlib.Core.Logic.{⊎-elim}
 use Prim.Native.Nat.{ℕ, _+_, _≤_, _<_}
 use native.Mathlib.Omega.{arith}
-use lib.Dec.{eqb}
 use lib.ListN.{length}
 use Rattle.standard.specs.Report.{Report, reportOf, report}
 use Rattle.subtag.proofs.Walk.{le-or-lt}
@@ -15,20 +13,12 @@ use Rattle.reader.proofs.Outcomes.{outcome-long}
 use Rattle.reader.proofs.Reports.{report-bad}
 use Rattle.fields.specs.Fields.{field, askedOf}
 use Rattle.inspection.specs.Rows.{fieldsText, reportText, rowOf}
-use Rattle.fields.proofs.Laws.{asked-two, field-length}
+use Rattle.fields.proofs.Laws.{asked-two, asked-short, field-length}
 
 -- what is printed as asked has at most 255 bytes
 long-asked : (x : List ℕ) → 255 < length x → length (askedOf ((report x) .number) x) ≤ 255
 unfolding refusedReport reportOf
 long-asked x h = rw (← (report-bad x 2 0 (outcome-long x h)), asked-two 2 x refl) (omega arith)
-
-asked-short : (n : ℕ) (x : List ℕ) → length x ≤ 255 → length (askedOf n x) ≤ 255
-unfolding askedOf
-asked-short n x h = go (eqb n 2 || eqb n 3)
-  where
-    go : (b : Bool) → length (cond b (45 ∷ []) x) ≤ 255
-    go true = omega arith
-    go false = h
 
 asked-small : (x : List ℕ) → length (askedOf ((report x) .number) x) ≤ 255
 asked-small x = ⊎-elim (asked-short ((report x) .number) x) (long-asked x) (le-or-lt (length x) 255)

@@ -1,0 +1,173 @@
+-- Laws of the rows of `keys`. Assumes nothing.
+use mathlib.Core.Path.{_≡_, refl, sym, ap, ap₂, _∙_, subst}
+use mathlib.Core.Bool.{true, false}
+use mathlib.Core.List.{List, [], _∷_, _++_, map}
+use mathlib.Core.Logic.{⊎-elim}
+use mathlib.Core.Option.{Option, none, some}
+use Prim.Native.Nat.{ℕ, _+_, _-_, _≤_, _<_}
+use native.Mathlib.Omega.{arith}
+use lib.Dec.{leb}
+use lib.ListN.{length, take, drop}
+use lib.Seq.{sets, sets-eq, take-all, take-at, length-take-le}
+use borrow.Author.Tests.{eq-eqb, ne-eqb, le-leb}
+use Rattle.subtag.proofs.Walk.{le-or-lt}
+use Rattle.standard.specs.Delivery.{Bytes, Made, result, refusal, Given, given}
+use Rattle.standard.specs.Identifier.{Identifier}
+use Rattle.standard.specs.Calls.{minimise}
+use Rattle.standard.specs.Reading.{Fault, split, identifierOf, faultOf, good, bad, readAs, read}
+use Rattle.standard.specs.Table.{tablesOf, check}
+use Rattle.standard.specs.Make.{make, makeOf, whole}
+use Rattle.standard.proofs.Demand.{result-of}
+use Rattle.standard.proofs.Numbers.{Proper, whole-proper}
+use Rattle.standard.proofs.Table.{passed, good-tables, shaped-tables}
+use Rattle.standard.proofs.Whole.{narrow-likely}
+use Rattle.reader.specs.Parts.{parts, refused, partsOf, outcomeAs, outcome}
+use Rattle.reader.proofs.Outcomes.{outcome-long}
+use Rattle.canonical.specs.Answer.{answerOf, refusedAnswer, refusedTable}
+use Rattle.canonical.specs.declared.delivery.Answer.{Answer as Answered}
+use Rattle.likely.specs.Both.{TestedBoth, operationOf}
+use Rattle.likely.specs.declared.tested.Answered.{Answered as Outcome}
+use Rattle.likely.specs.Answered.{givenAnswered}
+use Rattle.likely.specs.Whole.{answerBy}
+use Rattle.likely.proofs.Checked.{answer-given, whole-good, whole-minimised}
+use Rattle.fields.specs.Fields.{askedOf}
+use Rattle.fields.proofs.Laws.{asked-two, asked-short}
+use Rattle.lines.specs.Pieces.{rowsText, pieceText, pieceUsed}
+use Rattle.lines.specs.Squeeze.{handed, allLines, together}
+use Rattle.lines.proofs.Laws.{all-lines}
+use Rattle.lines.proofs.Pieces.{rest-rows}
+use Rattle.table.specs.Lines.{lines}
+use Rattle.verdict.specs.declared.Verdict.{Verdict}
+use Rattle.verdict.specs.declared.Verdict.the-variants.{Bad}
+use Rattle.verdict.specs.Verdicts.{verdictIs}
+use Rattle.key_rows.specs.declared.Keyed.{Keyed}
+use Rattle.key_rows.specs.Keys.{numberOf, keptOf, answerText, madeKey, keyRow, keptText, rowsGiven, afterTables, keysGiven, keyedIs}
+
+-- A line of more than 255 bytes is refused with 2.
+read-long : (x : Bytes) → 255 < length x → read x ≡ bad 2 0
+unfolding read readAs outcome outcomeAs
+read-long x h = go (faultOf x) (outcome-long x h)
+  where
+    parts-not : {n p : ℕ} {q : _} {Q : Type 0} → refused n p ≡ parts q → Q
+    parts-not e = let z : _≡_ {A = ℕ} 0 1 = cc in absurd (omega arith)
+
+    same-numbers : {n p m q : ℕ} → refused n p ≡ refused m q → bad m q ≡ bad n p
+    same-numbers e = cc
+
+    go : (o : Option Fault) → refused 2 0 ≡ outcomeAs o (partsOf (split x)) → readAs o (identifierOf (split x)) ≡ bad 2 0
+    go none e = parts-not e
+    go (some f) e = same-numbers e
+
+made-long : (A L x : Bytes) → 255 < length x → madeKey A L x ≡ refusal 2 0 0
+unfolding madeKey make makeOf
+made-long A L x h = rw (read-long x h)
+
+row-long : (A L x : Bytes) → 255 < length x → keyRow A L x ≡ answerText 2 [] (45 ∷ [])
+unfolding keyRow numberOf keptOf answerText
+row-long A L x h = rw (made-long A L x h, asked-two 2 x refl, asked-two 2 [] refl)
+
+-- Of a line only the first 256 bytes matter.
+pub row-first : (A L x : Bytes) → keyRow A L (take 256 x) ≡ keyRow A L x
+row-first A L x =
+    ⊎-elim (λ h. ap (keyRow A L) (take-all 256 x h))
+    (λ h. row-long A L (take 256 x) (omega (arith, length-take-le 256 x (omega arith))) ∙ sym (row-long A L x (omega arith))) (le-or-lt (length x) 256)
+
+sets-front : (text out : Bytes) → length text ≤ length out → sets out 0 text ≡ text ++ drop (length text) out
+sets-front text out h = sets-eq text out 0 (omega arith) ∙ (let z : 0 + length text ≡ length text = omega arith in rw z refl)
+
+-- A form has at most 255 bytes: it is read back.
+good-not : {i : Identifier} {n p : ℕ} {Q : Type 0} → good i ≡ bad n p → Q
+good-not q = let z : _≡_ {A = ℕ} 0 1 = cc in absurd (omega arith)
+
+module _ (A L x : Bytes) (pass : check true false A L [] ≡ none) where
+  form-short : (r : Bytes) (w : ℕ) → madeKey A L x ≡ result r w → length r ≤ 255
+  unfolding madeKey
+  form-short r w e =
+      let k = passed A L [] (narrow-likely A L ∙ pass) in
+      let q = result-of (tablesOf A L []) (good-tables A L [] k) (shaped-tables A L [] k) minimise x r w e in
+      ⊎-elim (λ h. h) (λ h. good-not (sym (q .back) ∙ read-long r h)) (le-or-lt (length r) 255)
+
+  made-proper : Proper (madeKey A L x)
+  unfolding madeKey whole operationOf
+  made-proper = subst Proper (sym (whole-minimised A L x) ∙ whole-good true A L x pass) (whole-proper A L [] minimise x)
+
+  -- what was made, once it is in the buffer, is the row
+  pub record Told (a : Answered) (form : Bytes) : Type 0 where
+    pub asked : length (askedOf (a .number) x) ≤ 255
+    pub few : a .len ≤ 255
+    pub text : answerText (a .number) x (keptText (a .number) (take (a .len) form)) ≡ keyRow A L x
+
+  asked-fits : (n : ℕ) → n ≡ numberOf (madeKey A L x) → length (askedOf n x) ≤ 255
+  unfolding numberOf
+  asked-fits n e =
+      ⊎-elim (asked-short n x) (λ h. rw (asked-two n x (e ∙ ap numberOf (made-long A L x h))) (omega arith)) (le-or-lt (length x) 255)
+
+  told-as : (a : Answered) (form form₀ : Bytes) (m : Made) → madeKey A L x ≡ m → length form₀ ≡ 256 → answerOf a form ≡ given m form₀ → Proper m → Told a form
+  unfolding given answerOf keyRow numberOf keptOf keptText Proper
+  told-as a form form₀ (result r s) e n g p =
+      let f = form-short r s e in
+      let b : leb (length r) (length form₀) ≡ true = le-leb (length r) (length form₀) (omega arith) in
+      let h = rw b at g in
+      let number : a .number ≡ 0 = ap (λ (q : Given). q .number) h in
+      let len : a .len ≡ length r = ap (λ (q : Given). q .len) h in
+      let bytes : form ≡ r ++ drop (length r) form₀ = ap (λ (q : Given). q .output) h in
+      record {
+        asked = asked-fits (a .number) (number ∙ sym (ap numberOf e));
+        few = omega arith;
+        text = rw (number, len, bytes, take-at r (drop (length r) form₀) (length r) refl, e);
+      }
+  told-as a form form₀ (refusal n p t) e k g q =
+      let number : a .number ≡ n = ap (λ (q : Given). q .number) g in
+      let len : a .len ≡ 0 = ap (λ (q : Given). q .len) g in
+      record {
+        asked = asked-fits (a .number) (number ∙ sym (ap numberOf e));
+        few = omega arith;
+        text = rw (number, ne-eqb n 0 (λ z. omega (arith, q .0)), e);
+      }
+
+  pub told : (a : Answered) (form form₀ : Bytes) → length form₀ ≡ 256 → answerOf a form ≡ given (madeKey A L x) form₀ → Told a form
+  told a form form₀ n g = told-as a form form₀ (madeKey A L x) refl n g made-proper
+
+pub told-row : (A L x : Bytes) (t : TestedBoth A L) (r : Outcome) (a : Answered) (form form₀ : Bytes) → length form₀ ≡ 256 → a ≡ answerBy r
+    → givenAnswered r form ≡ given (make (tablesOf A L []) (operationOf true) x) form₀ → Told A L x (t .passes) a form
+unfolding madeKey operationOf
+told-row A L x t r a form form₀ n e g = told A L x (t .passes) a form form₀ n (ap (λ (q : Answered). answerOf q form) e ∙ answer-given r form ∙ g)
+
+-- what is kept, as the code decides it
+pub kept-form : (n : ℕ) (form : Bytes) → n ≡ 0 → keptText n form ≡ form
+unfolding keptText
+kept-form n form e = rw (eq-eqb n 0 e)
+
+pub kept-none : (n : ℕ) (form : Bytes) → (n ≡ 0 → ⊥) → keptText n form ≡ 45 ∷ []
+unfolding keptText
+kept-none n form f = rw (ne-eqb n 0 f)
+
+-- The rows of a piece, once they are written.
+module _ (A L x : Bytes) (pass : check true false A L [] ≡ none) (out₀ out : Bytes) (k : Keyed) where
+  pub rows-given : k .number ≡ 0 → k .table ≡ 0 → k .place ≡ 0 → k .used ≡ pieceUsed (keyRow A L) 540 (length out₀) x → k .len ≡ length (pieceText (keyRow A L) 540 (length out₀) x)
+      → out ≡ sets out₀ 0 (pieceText (keyRow A L) 540 (length out₀) x) → k .len ≤ length out₀ → keyedIs k out ≡ keysGiven A L x out₀
+  unfolding keysGiven afterTables rowsGiven keyedIs
+  rows-given n t p u l o h =
+      let text = pieceText (keyRow A L) 540 (length out₀) x in
+      let s : out ≡ text ++ drop (length text) out₀ = o ∙ sets-front text out₀ (omega arith) in
+      rw (pass, n, t, p, u, l, s)
+
+-- a bad table
+pub table-given : {n t p : ℕ} (A L x out : Bytes) (v : Verdict) (r : Answered) → v ≡ Bad n t p → r ≡ refusedTable v → verdictIs v ≡ check true false A L []
+    → keyedIs (record { number = r .number; table = r .table; place = r .place; used = 0; len = 0 }) out ≡ keysGiven A L x out
+unfolding keysGiven afterTables keyedIs refusedTable refusedAnswer
+table-given A L x out v r g e f = rw (← f, g, e, g)
+
+-- THE PROGRAM: of blocks of input, wherever they end, the rows of the lines that the line reader hands over are the rows
+-- of the lines of the input.
+rows-first : (A L : Bytes) (ls : List Bytes) → rowsText (keyRow A L) (map (take 256) ls) ≡ rowsText (keyRow A L) ls
+unfolding rowsText
+rows-first A L [] = refl
+rows-first A L (l ∷ ls) = ap₂ (λ (a b : Bytes). a ++ b) (row-first A L l) (rows-first A L ls)
+
+pub all-rows : (A L : Bytes) (bs : List Bytes) → rowsText (keyRow A L) (allLines (handed [] bs)) ≡ rowsText (keyRow A L) (lines (together bs))
+all-rows A L bs = ap (rowsText (keyRow A L)) (all-lines bs) ∙ rows-first A L (lines (together bs))
+
+-- and those of the lines that are answered, then those of the rest of a piece, are the rows of all its lines
+pub rest-of : (A L : Bytes) (room : ℕ) (x : Bytes) → pieceText (keyRow A L) 540 room x ++ rowsText (keyRow A L) (lines (drop (pieceUsed (keyRow A L) 540 room x) x)) ≡ rowsText (keyRow A L) (lines x)
+rest-of A L room x = rest-rows (keyRow A L) 540 room x

@@ -1,0 +1,50 @@
+-- `key_rows::rows_of` meets its contract. Assumes nothing.
+use native.Mathlib.Omega.{arith}
+use Rattle.canonical.proofs.Delivers.{table-good}
+use Rattle.likely.proofs.Checked.{tested-both}
+use Rattle.key_rows.proofs.Laws as laws
+use borrow.Author.Needs.{needs}
+use Rattle.key_rows.proofs.rows_of.Statement.{statement}
+use Rattle.key_rows.proofs.rows_of.Tie as tie
+
+check-likely-requires : tie.Need-check-likely-requires
+check-likely-requires c κs = search needs
+
+enum-told : tie.Need-enum-told
+enum-told c = search needs
+
+enum-told-2 : tie.Need-enum-told-2
+enum-told-2 c = search needs
+
+refused-table-requires : tie.Need-refused-table-requires
+refused-table-requires c κs = search needs
+
+returns : tie.Need-returns
+returns c =
+    let k = c .before .before .before in
+    let a = k .before .before .before .before .before .args in
+    (laws.table-given (a .aliases .now) (a .likely .now) (a .piece .now) (a .out .now) (k .check-likely .result) (c .refused-table .result) (c .before .enum-told2 .given .1) (c .refused-table .ensures) (k .check-likely .ensures), omega arith, omega arith)
+
+rows-tested-requires : tie.Need-rows-tested-requires
+rows-tested-requires c κs =
+    let k = c .before .before .before in
+    tested-both _ _ (table-good (k .check-likely .result) _ (k .check-likely .ensures) (c .before .enum-told .given .1))
+
+same-length : tie.Need-same-length
+same-length c = search needs
+
+returns-2 : tie.Need-returns-2
+returns-2 c = search needs
+
+pub rows-of-spec : {M : Type 1} → statement M
+rows-of-spec =
+    tie.close
+    (tie.spec
+    check-likely-requires
+    enum-told
+    enum-told-2
+    refused-table-requires
+    returns
+    rows-tested-requires
+    same-length
+    returns-2)

@@ -1,0 +1,115 @@
+// The rows of the program `keys`: of each line what was asked, the number and the minimised form. The tables are tested
+// once for a whole piece of lines.
+use canonical::delivery::refused_table;
+use fields::put;
+use fields::put_asked;
+use fields::put_number;
+use likely::tested::form_tested;
+use likely::whole::answer;
+use lines::next_line;
+use table::end_of;
+use verdict::Verdict;
+use verdict::check_likely;
+ghost use mathlib.Core.Path.{_≡_};
+ghost use Prim.Native.Nat.{_+_, _≤_};
+ghost use lib.ListN.{length, take};
+ghost use lib.Seq.{sets};
+ghost use Rattle.fields.specs.Fields.{field, askedOf};
+ghost use Rattle.likely.specs.Both.{TestedBoth};
+ghost use Rattle.key_rows.specs.Keys.{answerText, keptText, keyRow, keysGiven, keyedIs};
+
+// Number, table and place of the tables' refusal; how many bytes of the piece were answered, and the length of their rows.
+pub struct Keyed {
+    pub number: u8,
+    pub table: u8,
+    pub place: usize,
+    pub used: usize,
+    pub len: usize,
+}
+
+// Room for a form, which has at most 255 bytes.
+fn form_buffer() -> [u8; 256]
+    ensures { λ r. ⌜ length r ≡ 256 ⌝ }
+{
+    [0u8; 256]
+}
+
+// What is kept: the form, or `-`.
+fn put_kept(number: u8, form: &[u8], len: usize, out: &mut [u8], at: usize) -> usize
+    requires { ⌜ (len ≤ 255) × (len ≤ length (now form)) × (at + 256 ≤ length (now out)) ⌝ }
+    ensures { λ r. ⌜ (r ≡ at + length (field (keptText number (take len (now (form .entry)))) 10)) × (now (out .exit) ≡ sets (now (out .entry)) at (field (keptText number (take len (now (form .entry)))) 10)) × (r ≤ at + 256) ⌝ }
+{
+    if number == 0 {
+        return put(&form[..len], b'\n', out, at);
+    }
+    put(b"-", b'\n', out, at)
+}
+
+// The row of an answer.
+fn put_answer(line: &[u8], number: u8, form: &[u8], len: usize, out: &mut [u8], at: usize) -> usize
+    requires { ⌜ (length (askedOf number (now line)) ≤ 255) × (len ≤ 255) × (len ≤ length (now form)) × (at + 540 ≤ length (now out)) ⌝ }
+    ensures { λ r. ⌜ (r ≡ at + length (answerText number (now (line .entry)) (keptText number (take len (now (form .entry)))))) × (now (out .exit) ≡ sets (now (out .entry)) at (answerText number (now (line .entry)) (keptText number (take len (now (form .entry)))))) × (r ≤ at + 540) ⌝ }
+{
+    let p = put_asked(number, line, out, at);
+    let q = put_number(number as usize, b'\t', out, p);
+    put_kept(number, form, len, out, q)
+}
+
+// Writes the row of a line at the place at, and gives the next place.
+fn put_row(line: &[u8], aliases: &[u8], likely: &[u8], out: &mut [u8], at: usize) -> usize
+    requires { ⌜ TestedBoth (now aliases) (now likely) × (at + 540 ≤ length (now out)) ⌝ }
+    ensures { λ r. ⌜ (r ≡ at + length (keyRow (now (aliases .entry)) (now (likely .entry)) (now (line .entry)))) × (now (out .exit) ≡ sets (now (out .entry)) at (keyRow (now (aliases .entry)) (now (likely .entry)) (now (line .entry)))) × (r ≤ at + 540) ⌝ }
+{
+    let mut form = form_buffer();
+    let a = answer(form_tested(true, line, aliases, likely, &mut form));
+    put_answer(line, a.number, &form, a.len, out, at)
+}
+
+// The rows over tables that passed the check.
+fn rows_tested(piece: &[u8], aliases: &[u8], likely: &[u8], out: &mut [u8]) -> Keyed
+    requires { ⌜ TestedBoth (now aliases) (now likely) ⌝ }
+    ensures { λ r. ⌜ (keyedIs r (now (out .exit)) ≡ keysGiven (now (aliases .entry)) (now (likely .entry)) (now (piece .entry)) (now (out .entry))) × (r .used ≤ length (now (piece .entry))) × (r .len ≤ length (now (out .entry))) ⌝ }
+{
+    let mut at = 0;
+    let mut len = 0;
+    while at < piece.len() {
+        if out.len() - len < 540 {
+            return Keyed {
+                number: 0,
+                table: 0,
+                place: 0,
+                used: at,
+                len,
+            };
+        }
+        let e = end_of(piece, b'\n', at);
+        len = put_row(&piece[at..e], aliases, likely, out, len);
+        at = next_line(piece.len(), e);
+    }
+    Keyed {
+        number: 0,
+        table: 0,
+        place: 0,
+        used: at,
+        len,
+    }
+}
+
+// Tests the tables, then writes the rows of the lines of a piece at the front of out, as long as 540 bytes are free before
+// each. A bad table gives its number, table and place, and no rows.
+pub fn rows_of(piece: &[u8], aliases: &[u8], likely: &[u8], out: &mut [u8]) -> Keyed
+    ensures { λ r. ⌜ (keyedIs r (now (out .exit)) ≡ keysGiven (now (aliases .entry)) (now (likely .entry)) (now (piece .entry)) (now (out .entry))) × (r .used ≤ length (now (piece .entry))) × (r .len ≤ length (now (out .entry))) ⌝ }
+{
+    let v = check_likely(aliases, likely);
+    let Verdict::Good = v else {
+        let a = refused_table(v);
+        return Keyed {
+            number: a.number,
+            table: a.table,
+            place: a.place,
+            used: 0,
+            len: 0,
+        };
+    };
+    rows_tested(piece, aliases, likely, out)
+}
