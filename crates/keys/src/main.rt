@@ -5,7 +5,6 @@ use libc::STDIN_FILENO;
 use libc::STDOUT_FILENO;
 use opener::load;
 ghost use mathlib.Core.Path.{_≡_};
-ghost use Prim.Native.Nat.{_≤_};
 ghost use lib.ListN.{length};
 
 // Prints the rows of the lines of a piece, as many at a time as have room in out; or the line of a bad table, and then

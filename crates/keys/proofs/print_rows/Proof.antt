@@ -1,0 +1,99 @@
+-- `keys::print_rows` meets its contract. Assumes nothing.
+use native.Mathlib.Omega.{arith}
+use mathlib.Core.Path.{_≡_, sym}
+use Prim.Native.Nat.{_-_, _≤_}
+use lib.ListN.{length}
+use lib.Seq.{length-take-le}
+use Rattle.lines.proofs.Pieces.{rest-length}
+use borrow.Author.Needs.{needs}
+use Rattle.keys.proofs.print_rows.Statement.{statement}
+use Rattle.keys.proofs.print_rows.Tie as tie
+
+abbrev Inv-loop : tie.InvT-loop
+Inv-loop piece aliases likely out₀ from₀ out from = (from ≤ length piece) × (length out ≡ length out₀)
+
+abbrev μ-loop : tie.MeasureT-loop
+μ-loop piece aliases likely out₀ from₀ out from = length piece - from
+
+loop-holds : tie.Need-loop-holds Inv-loop μ-loop
+loop-holds c = search needs
+
+sub-rows-of : tie.Need-sub-rows-of Inv-loop μ-loop
+sub-rows-of c = search needs
+
+part-rows-of-start : tie.Need-part-rows-of-start Inv-loop μ-loop
+part-rows-of-start c = search needs
+
+part-rows-of-end : tie.Need-part-rows-of-end Inv-loop μ-loop
+part-rows-of-end c = search needs
+
+rows-of-requires : tie.Need-rows-of-requires Inv-loop μ-loop
+rows-of-requires c κs = search needs
+
+-- a call uses no more than there is
+further : (c : tie.After-rows-of Inv-loop μ-loop) → c .rows-of .result .used ≤ length (c .before .before .before .before .before .before .before .before .args .piece .now) - c .before .before .before .loop .from
+further c = omega (arith, c .rows-of .ensures .1, rest-length (c .before .before .before .before .before .before .before .before .args .piece .now) (c .before .before .before .loop .from))
+
+print-table-requires : tie.Need-print-table-requires Inv-loop μ-loop
+print-table-requires c κs = search needs
+
+same-length : tie.Need-same-length Inv-loop μ-loop
+same-length c = search needs
+
+returns : tie.Need-returns Inv-loop μ-loop
+returns c = search needs
+
+slice-reshare-prefix-write-all : tie.Need-slice-reshare-prefix-write-all Inv-loop μ-loop
+slice-reshare-prefix-write-all c = omega (arith, c .before .before .before .before .rows-of .ensures .2)
+
+slice-aggregate-write-all : tie.Need-slice-aggregate-write-all Inv-loop μ-loop
+slice-aggregate-write-all c = sym (length-take-le _ _ (omega (arith, c .before .before .before .before .before .rows-of .ensures .2)))
+
+write-all-requires : tie.Need-write-all-requires Inv-loop μ-loop
+write-all-requires c κs = search needs
+
+same-length-2 : tie.Need-same-length-2 Inv-loop μ-loop
+same-length-2 c = search needs
+
+returns-2 : tie.Need-returns-2 Inv-loop μ-loop
+returns-2 c = search needs
+
+add-from : tie.Need-add-from Inv-loop μ-loop
+add-from c = omega (arith, further (c .before .before .before .before .before .before .before .before .before))
+
+same-length-3 : tie.Need-same-length-3 Inv-loop μ-loop
+same-length-3 c = search needs
+
+returns-3 : tie.Need-returns-3 Inv-loop μ-loop
+returns-3 c = search needs
+
+loop-less : tie.Need-loop-less Inv-loop μ-loop
+loop-less c = omega (arith, further (c .before .before .before .before .before .before .before .before .before .before))
+
+loop-again : tie.Need-loop-again Inv-loop μ-loop
+loop-again c = (omega (arith, further (c .before .before .before .before .before .before .before .before .before .before)), search needs)
+
+pub print-rows-spec : {M : Type 1} → statement M
+print-rows-spec =
+    tie.close
+    (tie.spec
+    Inv-loop
+    μ-loop
+    loop-holds
+    sub-rows-of
+    part-rows-of-start
+    part-rows-of-end
+    rows-of-requires
+    print-table-requires
+    same-length
+    returns
+    slice-reshare-prefix-write-all
+    slice-aggregate-write-all
+    write-all-requires
+    same-length-2
+    returns-2
+    add-from
+    same-length-3
+    returns-3
+    loop-less
+    loop-again)
