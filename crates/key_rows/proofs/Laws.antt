@@ -15,10 +15,10 @@ use Rattle.standard.specs.Delivery.{Bytes, Made, result, refusal, Given, given}
 use Rattle.standard.specs.Identifier.{Identifier}
 use Rattle.standard.specs.Calls.{minimise}
 use Rattle.standard.specs.Reading.{Fault, split, identifierOf, faultOf, good, bad, readAs, read}
-use Rattle.standard.specs.Table.{tablesOf, check}
+use Rattle.standard.specs.Table.{TableFault, tablesOf, check}
 use Rattle.standard.specs.Make.{make, makeOf, whole}
 use Rattle.standard.proofs.Demand.{result-of}
-use Rattle.standard.proofs.Numbers.{Proper, whole-proper}
+use Rattle.standard.proofs.Numbers.{Proper, whole-proper, TableWithin, check-within}
 use Rattle.standard.proofs.Table.{passed, good-tables, shaped-tables}
 use Rattle.standard.proofs.Whole.{narrow-likely}
 use Rattle.reader.specs.Parts.{parts, refused, partsOf, outcomeAs, outcome}
@@ -35,13 +35,13 @@ use Rattle.fields.proofs.Laws.{asked-two, asked-short}
 use Rattle.lines.specs.Pieces.{rowsText, pieceText, pieceUsed}
 use Rattle.lines.specs.Squeeze.{handed, allLines, together}
 use Rattle.lines.proofs.Laws.{all-lines}
-use Rattle.lines.proofs.Pieces.{rest-rows}
+use Rattle.lines.proofs.Pieces.{rest-rows, used-some}
 use Rattle.table.specs.Lines.{lines}
 use Rattle.verdict.specs.declared.Verdict.{Verdict}
 use Rattle.verdict.specs.declared.Verdict.the-variants.{Bad}
 use Rattle.verdict.specs.Verdicts.{verdictIs}
 use Rattle.key_rows.specs.declared.Keyed.{Keyed}
-use Rattle.key_rows.specs.Keys.{numberOf, keptOf, answerText, madeKey, keyRow, keptText, rowsGiven, afterTables, keysGiven, keyedIs}
+use Rattle.key_rows.specs.Keys.{numberOf, keptOf, answerText, madeKey, keyRow, keptText, Answer, rowsGiven, afterTables, keysGiven, keyedIs}
 
 -- A line of more than 255 bytes is refused with 2.
 read-long : (x : Bytes) → 255 < length x → read x ≡ bad 2 0
@@ -157,6 +157,21 @@ pub table-given : {n t p : ℕ} (A L x out : Bytes) (v : Verdict) (r : Answered)
     → keyedIs (record { number = r .number; table = r .table; place = r .place; used = 0; len = 0 }) out ≡ keysGiven A L x out
 unfolding keysGiven afterTables keyedIs refusedTable refusedAnswer
 table-given A L x out v r g e f = rw (← f, g, e, g)
+
+-- where there is room for a row, good tables bring a piece that is not empty further
+pub further : (A L x out₀ out : Bytes) (k : Keyed) → keyedIs k out ≡ keysGiven A L x out₀ → k .number ≡ 0 → 540 ≤ length out₀ → 0 < length x → 0 < k .used
+unfolding keysGiven keyedIs rowsGiven afterTables TableWithin
+further A L x out₀ out k e z h n = go (check true false A L []) (check-within true false A L []) e
+  where
+    rows : Answer
+    rows = rowsGiven (pieceUsed (keyRow A L) 540 (length out₀) x) (pieceText (keyRow A L) 540 (length out₀) x) out₀
+
+    used : keyedIs k out ≡ rows → k .used ≡ pieceUsed (keyRow A L) 540 (length out₀) x
+    used q = ap (λ (a : Answer). a .used) q
+
+    go : (o : Option TableFault) → TableWithin o → keyedIs k out ≡ afterTables o rows out₀ → 0 < k .used
+    go none w q = omega (arith, used q, used-some (keyRow A L) 540 (length out₀) x h n)
+    go (some f) w q = let y : k .number ≡ f .fault .number = ap (λ (a : Answer). a .number) q in absurd (omega (arith, w .0))
 
 -- THE PROGRAM: of blocks of input, wherever they end, the rows of the lines that the line reader hands over are the rows
 -- of the lines of the input.

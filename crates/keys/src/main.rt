@@ -5,11 +5,14 @@ use libc::STDIN_FILENO;
 use libc::STDOUT_FILENO;
 use opener::load;
 ghost use mathlib.Core.Path.{_≡_};
+ghost use Prim.Native.Nat.{_≤_};
 ghost use lib.ListN.{length};
 
 // Prints the rows of the lines of a piece, as many at a time as have room in out; or the line of a bad table, and then
 // answers no. A bad table shows with an empty piece too.
-fn print_rows(piece: &[u8], aliases: &[u8], likely: &[u8], out: &mut [u8]) -> bool {
+fn print_rows(piece: &[u8], aliases: &[u8], likely: &[u8], out: &mut [u8]) -> bool
+    requires { ⌜ 540 ≤ length (now out) ⌝ }
+{
     let mut from: usize = 0;
     loop {
         let k = key_rows::rows_of(&piece[from..], aliases, likely, out);
@@ -19,9 +22,6 @@ fn print_rows(piece: &[u8], aliases: &[u8], likely: &[u8], out: &mut [u8]) -> bo
         }
         let len = k.len;
         io::write_all(STDOUT_FILENO, &out[..len]);
-        if k.used == 0 {
-            return true;
-        }
         from += k.used;
         if from == piece.len() {
             return true;
@@ -31,7 +31,7 @@ fn print_rows(piece: &[u8], aliases: &[u8], likely: &[u8], out: &mut [u8]) -> bo
 
 // Reads to the end of the input. A proved loop has to end, so it counts its turns down from a number that no run uses up.
 fn answer_input(aliases: &[u8], likely: &[u8], block: &mut [u8], piece: &mut [u8], out: &mut [u8])
-    requires { ⌜ (length (now block) ≡ 65536) × (length (now piece) ≡ 65792) ⌝ }
+    requires { ⌜ (length (now block) ≡ 65536) × (length (now piece) ≡ 65792) × (540 ≤ length (now out)) ⌝ }
 {
     let mut kept: usize = 0;
     let mut turns = u64::MAX;

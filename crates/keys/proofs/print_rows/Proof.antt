@@ -1,16 +1,17 @@
 -- `keys::print_rows` meets its contract. Assumes nothing.
 use native.Mathlib.Omega.{arith}
 use mathlib.Core.Path.{_≡_, sym}
-use Prim.Native.Nat.{_-_, _≤_}
-use lib.ListN.{length}
+use Prim.Native.Nat.{_-_, _≤_, _<_}
+use lib.ListN.{length, take, drop}
 use lib.Seq.{length-take-le}
 use Rattle.lines.proofs.Pieces.{rest-length}
+use Rattle.key_rows.proofs.Laws as laws
 use borrow.Author.Needs.{needs}
 use Rattle.keys.proofs.print_rows.Statement.{statement}
 use Rattle.keys.proofs.print_rows.Tie as tie
 
 abbrev Inv-loop : tie.InvT-loop
-Inv-loop piece aliases likely out₀ from₀ out from = (from ≤ length piece) × (length out ≡ length out₀)
+Inv-loop piece aliases likely out₀ from₀ out from = (from ≤ length piece) × (540 ≤ length out) × (length out ≡ length out₀)
 
 abbrev μ-loop : tie.MeasureT-loop
 μ-loop piece aliases likely out₀ from₀ out from = length piece - from
@@ -30,9 +31,15 @@ part-rows-of-end c = search needs
 rows-of-requires : tie.Need-rows-of-requires Inv-loop μ-loop
 rows-of-requires c κs = search needs
 
--- a call uses no more than there is
-further : (c : tie.After-rows-of Inv-loop μ-loop) → c .rows-of .result .used ≤ length (c .before .before .before .before .before .before .before .before .args .piece .now) - c .before .before .before .loop .from
-further c = omega (arith, c .rows-of .ensures .1, rest-length (c .before .before .before .before .before .before .before .before .args .piece .now) (c .before .before .before .loop .from))
+-- a call uses no more than there is, and something where there is something
+within : (c : tie.After-rows-of Inv-loop μ-loop) → c .rows-of .result .used ≤ length (c .before .before .before .before .before .before .before .before .args .piece .now) - c .before .before .before .loop .from
+within c = omega (arith, c .rows-of .ensures .1, rest-length (c .before .before .before .before .before .before .before .before .args .piece .now) (c .before .before .before .loop .from))
+
+further : (c : tie.After-rows-of Inv-loop μ-loop) → c .rows-of .result .number ≡ 0 → c .before .before .before .loop .from < length (c .before .before .before .before .before .before .before .before .args .piece .now) → 0 < c .rows-of .result .used
+further c e h =
+    let a = c .before .before .before .before .before .before .before .before .args in
+    let l = c .before .before .before .loop in
+    laws.further (a .aliases .now) (a .likely .now) (take (length (a .piece .now) - l .from) (drop (l .from) (a .piece .now))) (l .out) _ (c .rows-of .result) (c .rows-of .ensures .0) e (l .inv .1) (omega (arith, rest-length (a .piece .now) (l .from)))
 
 print-table-requires : tie.Need-print-table-requires Inv-loop μ-loop
 print-table-requires c κs = search needs
@@ -52,26 +59,20 @@ slice-aggregate-write-all c = sym (length-take-le _ _ (omega (arith, c .before .
 write-all-requires : tie.Need-write-all-requires Inv-loop μ-loop
 write-all-requires c κs = search needs
 
+add-from : tie.Need-add-from Inv-loop μ-loop
+add-from c = omega (arith, within (c .before .before .before .before .before .before .before))
+
 same-length-2 : tie.Need-same-length-2 Inv-loop μ-loop
 same-length-2 c = search needs
 
 returns-2 : tie.Need-returns-2 Inv-loop μ-loop
 returns-2 c = search needs
 
-add-from : tie.Need-add-from Inv-loop μ-loop
-add-from c = omega (arith, further (c .before .before .before .before .before .before .before .before .before))
-
-same-length-3 : tie.Need-same-length-3 Inv-loop μ-loop
-same-length-3 c = search needs
-
-returns-3 : tie.Need-returns-3 Inv-loop μ-loop
-returns-3 c = search needs
-
 loop-less : tie.Need-loop-less Inv-loop μ-loop
-loop-less c = omega (arith, further (c .before .before .before .before .before .before .before .before .before .before))
+loop-less c = let w = within (c .before .before .before .before .before .before .before .before) in let f = further (c .before .before .before .before .before .before .before .before) (c .before .before .before .before .if1 .left) (omega arith) in omega arith
 
 loop-again : tie.Need-loop-again Inv-loop μ-loop
-loop-again c = (omega (arith, further (c .before .before .before .before .before .before .before .before .before .before)), search needs)
+loop-again c = (omega (arith, within (c .before .before .before .before .before .before .before .before)), search needs, search needs)
 
 pub print-rows-spec : {M : Type 1} → statement M
 print-rows-spec =
@@ -90,10 +91,8 @@ print-rows-spec =
     slice-reshare-prefix-write-all
     slice-aggregate-write-all
     write-all-requires
+    add-from
     same-length-2
     returns-2
-    add-from
-    same-length-3
-    returns-3
     loop-less
     loop-again)
