@@ -1,16 +1,23 @@
--- What is printed as asked has at most 255 bytes, and so a row has room. Assumes nothing.
-use mathlib.Core.Path.{_≡_, refl, sym, ap}
-use mathlib.Core.List.{List, _++_}
+-- What is printed as asked has at most 255 bytes, and so a row has room; of a line only the first 256 bytes matter.
+-- Assumes nothing.
+use mathlib.Core.Path.{_≡_, refl, sym, ap, _∙_}
+use mathlib.Core.List.{List, [], _++_}
 use mathlib.Core.Logic.{⊎-elim}
 use Prim.Native.Nat.{ℕ, _+_, _≤_, _<_}
 use native.Mathlib.Omega.{arith}
-use lib.ListN.{length}
+use lib.ListN.{length, take}
+use lib.Seq.{take-all, length-take-le}
+use Rattle.standard.specs.Reading.{bad}
 use Rattle.standard.specs.Report.{Report, reportOf, report}
 use Rattle.subtag.proofs.Walk.{le-or-lt}
 use Rattle.reader.specs.declared.report.Report.{Report as Read·Report}
 use Rattle.reader.specs.Words.{reportIs, refusedReport}
 use Rattle.reader.proofs.Outcomes.{outcome-long}
 use Rattle.reader.proofs.Reports.{report-bad}
+use Rattle.table.specs.Lines.{lines}
+use Rattle.lines.specs.Squeeze.{handed, allLines, together}
+use Rattle.lines.specs.Pieces.{rowsText}
+use Rattle.lines.proofs.Pieces.{rows-handed}
 use Rattle.fields.specs.Fields.{field, askedOf}
 use Rattle.inspection.specs.Rows.{fieldsText, reportText, rowOf}
 use Rattle.fields.proofs.Laws.{asked-two, asked-short, field-length}
@@ -31,3 +38,18 @@ asked-length r x e = let s = rw (← e) at (asked-small x) in let f = field-leng
 pub row-text : (r : Read·Report) (x : List ℕ) → reportIs r ≡ report x → rowOf x ≡ field (askedOf (r .number) x) 9 ++ fieldsText (reportIs r)
 unfolding rowOf reportText reportIs
 row-text r x e = sym (ap (λ (q : Report). reportText q x) e)
+
+-- Of a line only the first 256 bytes matter: with more than 255 it is refused with 2.
+row-long : (x : List ℕ) → 255 < length x → rowOf x ≡ reportText (reportOf (bad 2 0)) []
+unfolding rowOf reportText refusedReport reportOf
+row-long x h = rw (← (report-bad x 2 0 (outcome-long x h)), asked-two 2 x refl, asked-two 2 [] refl)
+
+pub row-first : (x : List ℕ) → rowOf (take 256 x) ≡ rowOf x
+row-first x =
+    ⊎-elim (λ h. ap rowOf (take-all 256 x h))
+    (λ h. row-long (take 256 x) (omega (arith, length-take-le 256 x (omega arith))) ∙ sym (row-long x (omega arith))) (le-or-lt (length x) 256)
+
+-- THE PROGRAM: of blocks of input, wherever they end, the rows of the lines that the line reader hands over are the rows
+-- of the lines of the input.
+pub all-rows : (bs : List (List ℕ)) → rowsText rowOf (allLines (handed [] bs)) ≡ rowsText rowOf (lines (together bs))
+all-rows bs = rows-handed rowOf row-first bs

@@ -1,7 +1,7 @@
 -- Laws of the rows of `keys`. Assumes nothing.
-use mathlib.Core.Path.{_≡_, refl, sym, ap, ap₂, _∙_, subst}
+use mathlib.Core.Path.{_≡_, refl, sym, ap, _∙_, subst}
 use mathlib.Core.Bool.{true, false}
-use mathlib.Core.List.{List, [], _∷_, _++_, map}
+use mathlib.Core.List.{List, [], _∷_, _++_}
 use mathlib.Core.Logic.{⊎-elim}
 use mathlib.Core.Option.{Option, none, some}
 use Prim.Native.Nat.{ℕ, _+_, _-_, _≤_, _<_}
@@ -34,8 +34,7 @@ use Rattle.fields.specs.Fields.{askedOf}
 use Rattle.fields.proofs.Laws.{asked-two, asked-short}
 use Rattle.lines.specs.Pieces.{rowsText, pieceText, pieceUsed}
 use Rattle.lines.specs.Squeeze.{handed, allLines, together}
-use Rattle.lines.proofs.Laws.{all-lines}
-use Rattle.lines.proofs.Pieces.{rest-rows, used-some}
+use Rattle.lines.proofs.Pieces.{rest-rows, used-some, rows-handed}
 use Rattle.table.specs.Lines.{lines}
 use Rattle.verdict.specs.declared.Verdict.{Verdict}
 use Rattle.verdict.specs.declared.Verdict.the-variants.{Bad}
@@ -175,13 +174,8 @@ further A L x out₀ out k e z h n = go (check true false A L []) (check-within 
 
 -- THE PROGRAM: of blocks of input, wherever they end, the rows of the lines that the line reader hands over are the rows
 -- of the lines of the input.
-rows-first : (A L : Bytes) (ls : List Bytes) → rowsText (keyRow A L) (map (take 256) ls) ≡ rowsText (keyRow A L) ls
-unfolding rowsText
-rows-first A L [] = refl
-rows-first A L (l ∷ ls) = ap₂ (λ (a b : Bytes). a ++ b) (row-first A L l) (rows-first A L ls)
-
 pub all-rows : (A L : Bytes) (bs : List Bytes) → rowsText (keyRow A L) (allLines (handed [] bs)) ≡ rowsText (keyRow A L) (lines (together bs))
-all-rows A L bs = ap (rowsText (keyRow A L)) (all-lines bs) ∙ rows-first A L (lines (together bs))
+all-rows A L bs = rows-handed (keyRow A L) (row-first A L) bs
 
 -- and those of the lines that are answered, then those of the rest of a piece, are the rows of all its lines
 pub rest-of : (A L : Bytes) (room : ℕ) (x : Bytes) → pieceText (keyRow A L) 540 room x ++ rowsText (keyRow A L) (lines (drop (pieceUsed (keyRow A L) 540 room x) x)) ≡ rowsText (keyRow A L) (lines x)

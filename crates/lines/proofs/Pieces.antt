@@ -1,6 +1,6 @@
 -- Laws of the rows of a piece. Assumes nothing.
 use mathlib.Core.Path.{_≡_, refl, sym, ap, ap₂, _∙_}
-use mathlib.Core.List.{List, [], _∷_, _++_, append-assoc}
+use mathlib.Core.List.{List, [], _∷_, _++_, map, append-assoc}
 use mathlib.Core.Logic.{⊎-elim}
 use Prim.Native.Nat.{ℕ, zero, suc, _+_, _-_, _≤_, _<_}
 use native.Mathlib.Omega.{arith}
@@ -11,7 +11,8 @@ use Rattle.subtag.proofs.Stores.{sets-append}
 use Rattle.subtag.proofs.Walk.{le-or-lt}
 use Rattle.table.specs.Lines.{lines, endOf}
 use Rattle.table.proofs.Lines.{lines-at, end-le, end-ge}
-use Rattle.lines.specs.Squeeze.{Bytes}
+use Rattle.lines.specs.Squeeze.{Bytes, handed, allLines, together}
+use Rattle.lines.proofs.Laws.{all-lines}
 use Rattle.lines.specs.Pieces.{rowsText, answered, span, pieceText, atMost, pieceUsed, Next}
 
 drop-most : (x : Bytes) (m : ℕ) → drop (atMost (length x) m) x ≡ drop m x
@@ -151,3 +152,14 @@ module _ (row : Bytes → Bytes) (need : ℕ) where
   -- the same of the rest of a piece, as code lends it
   pub used-rest : (room : ℕ) (x : Bytes) (from : ℕ) → need ≤ room → from < length x → 0 < pieceUsed row need room (take (length x - from) (drop from x))
   used-rest room x from h k = used-some room (take (length x - from) (drop from x)) h (omega (arith, rest-length x from))
+
+-- A program over the line reader: where of a line only the first 256 bytes matter, the rows of the lines that are handed
+-- over are the rows of the lines of the input, wherever its blocks end.
+module _ (row : Bytes → Bytes) (first : (x : Bytes) → row (take 256 x) ≡ row x) where
+  rows-first : (ls : List Bytes) → rowsText row (map (take 256) ls) ≡ rowsText row ls
+  unfolding rowsText
+  rows-first [] = refl
+  rows-first (l ∷ ls) = ap₂ (λ (a b : Bytes). a ++ b) (first l) (rows-first ls)
+
+  pub rows-handed : (bs : List Bytes) → rowsText row (allLines (handed [] bs)) ≡ rowsText row (lines (together bs))
+  rows-handed bs = ap (rowsText row) (all-lines bs) ∙ rows-first (lines (together bs))
