@@ -2,13 +2,16 @@
 // identifier and output. The answer is that of one call.
 use canonical::canonicalise_tested;
 use canonical::delivery::refused_table;
-use likely::tested::form_tested;
+use likely::tested::form_hinted;
 use parents::tested::chain_tested;
 use store::pack;
+use table::hints::fill_hints;
 use verdict::Verdict;
 ghost use mathlib.Core.Path.{_≡_};
 ghost use mathlib.Core.Option.{none};
+ghost use lib.ListN.{length};
 ghost use Rattle.standard.specs.Delivery.{given};
+ghost use Rattle.table.specs.Hints.{Hinted};
 ghost use Rattle.verdict.specs.Verdicts.{verdictIs};
 ghost use Rattle.store.specs.Packed.{unpacked};
 ghost use Rattle.probe.specs.Exported.{checkFor, madeFor};
@@ -29,21 +32,54 @@ fn check_for(operation: u8, aliases: &[u8], other: &[u8]) -> Verdict
     verdict::check_parents(aliases, other)
 }
 
-// The operation over tables that passed.
-fn once(operation: u8, id: &[u8], aliases: &[u8], other: &[u8], out: &mut [u8]) -> u64
-    requires { ⌜ checkFor operation (now aliases) (now other) ≡ none ⌝ }
+// The operation over tables that passed, each with its hints.
+fn once(
+    operation: u8,
+    id: &[u8],
+    aliases: &[u8],
+    alias_hints: &[u16],
+    other: &[u8],
+    other_hints: &[u16],
+    out: &mut [u8],
+) -> u64
+    requires { ⌜ (checkFor operation (now aliases) (now other) ≡ none) × Hinted (now aliases) (now «alias_hints») × Hinted (now other) (now «other_hints») ⌝ }
     ensures { λ r. ⌜ unpacked r (now (out .exit)) ≡ given (madeFor operation (now (aliases .entry)) (now (other .entry)) (now (id .entry))) (now (out .entry)) ⌝ }
 {
     if operation == 0 {
-        return pack(canonicalise_tested(id, aliases, out));
+        return pack(canonicalise_tested(id, aliases, alias_hints, out));
     }
     if operation == 1 {
-        return pack(likely::whole::answer(form_tested(false, id, aliases, other, out)));
+        let a = form_hinted(false, id, aliases, alias_hints, other, other_hints, out);
+        return pack(likely::whole::answer(a));
     }
     if operation == 2 {
-        return pack(likely::whole::answer(form_tested(true, id, aliases, other, out)));
+        let a = form_hinted(true, id, aliases, alias_hints, other, other_hints, out);
+        return pack(likely::whole::answer(a));
     }
     pack(parents::whole::answer(chain_tested(id, aliases, other, out)))
+}
+
+// The operation once and so many times more.
+fn repeated(
+    operation: u8,
+    id: &[u8],
+    aliases: &[u8],
+    alias_hints: &[u16],
+    other: &[u8],
+    other_hints: &[u16],
+    out: &mut [u8],
+    times: u32,
+) -> u64
+    requires { ⌜ (checkFor operation (now aliases) (now other) ≡ none) × Hinted (now aliases) (now «alias_hints») × Hinted (now other) (now «other_hints») ⌝ }
+    ensures { λ r. ⌜ unpacked r (now (out .exit)) ≡ given (madeFor operation (now (aliases .entry)) (now (other .entry)) (now (id .entry))) (now (out .entry)) ⌝ }
+{
+    let mut r = once(operation, id, aliases, alias_hints, other, other_hints, out);
+    let mut k: u32 = 0;
+    while k < times {
+        r = once(operation, id, aliases, alias_hints, other, other_hints, out);
+        k += 1;
+    }
+    r
 }
 
 // Tests the tables, then does the operation once and so many times more.
@@ -62,11 +98,37 @@ pub extern "C" fn probe_repeat(
     let Verdict::Good = v else {
         return pack(refused_table(v));
     };
-    let mut r = once(operation, id, aliases, other, out);
-    let mut k: u32 = 0;
-    while k < times {
-        r = once(operation, id, aliases, other, out);
-        k += 1;
-    }
-    r
+    let none = [0u16; 1];
+    let empty = &none[..0];
+    repeated(operation, id, aliases, empty, other, empty, out, times)
+}
+
+// Room for the hints of a table.
+fn no_hints() -> [u16; 8192]
+    ensures { λ r. ⌜ length r ≡ 8192 ⌝ }
+{
+    [0u16; 8192]
+}
+
+// The same with hints, made once.
+#[no_mangle]
+pub extern "C" fn probe_repeat_hinted(
+    operation: u8,
+    id: &[u8],
+    aliases: &[u8],
+    other: &[u8],
+    out: &mut [u8],
+    times: u32,
+) -> u64
+    ensures { λ r. ⌜ unpacked r (now (out .exit)) ≡ given (madeFor operation (now (aliases .entry)) (now (other .entry)) (now (id .entry))) (now (out .entry)) ⌝ }
+{
+    let v = check_for(operation, aliases, other);
+    let Verdict::Good = v else {
+        return pack(refused_table(v));
+    };
+    let mut a = no_hints();
+    fill_hints(aliases, &mut a);
+    let mut o = no_hints();
+    fill_hints(other, &mut o);
+    repeated(operation, id, aliases, &a, other, &o, out, times)
 }
