@@ -104,10 +104,10 @@ pub extern "C" fn probe_repeat(
 }
 
 // Room for the hints of a table.
-fn no_hints() -> [u16; 8192]
-    ensures { λ r. ⌜ length r ≡ 8192 ⌝ }
+fn no_hints() -> [u16; 16384]
+    ensures { λ r. ⌜ length r ≡ 16384 ⌝ }
 {
-    [0u16; 8192]
+    [0u16; 16384]
 }
 
 // The same with hints, made once.
