@@ -1,5 +1,5 @@
 // Reads identifiers from standard input, one a line, and prints what reading reports of each. Bytes after the last 0A
-// are a line unless there are none. Of a line only the first 256 bytes matter: with more than 255 it is refused.
+// are a line unless there are none. Of a line only the first 260 bytes are kept: with more than 255 it is refused.
 use libc::STDIN_FILENO;
 use libc::STDOUT_FILENO;
 ghost use mathlib.Core.Path.{_≡_};
@@ -21,7 +21,7 @@ fn print_rows(piece: &[u8], out: &mut [u8])
 
 // Reads to the end of the input. A proved loop has to end, so it counts its turns down from a number that no run uses up.
 fn answer_input(block: &mut [u8], piece: &mut [u8], out: &mut [u8])
-    requires { ⌜ (length (now block) ≡ 65536) × (length (now piece) ≡ 65792) × (512 ≤ length (now out)) ⌝ }
+    requires { ⌜ (length (now block) ≡ 65536) × (length (now piece) ≡ 65796) × (512 ≤ length (now out)) ⌝ }
 {
     let mut kept: usize = 0;
     let mut turns = u64::MAX;
@@ -41,10 +41,10 @@ fn answer_input(block: &mut [u8], piece: &mut [u8], out: &mut [u8])
 }
 
 // Room for a block of input behind an unfinished line.
-fn piece_buffer() -> [u8; 65792]
-    ensures { λ r. ⌜ 65792 ≡ length r ⌝ }
+fn piece_buffer() -> [u8; 65796]
+    ensures { λ r. ⌜ 65796 ≡ length r ⌝ }
 {
-    [0; 65792]
+    [0; 65796]
 }
 
 fn main() {

@@ -1,4 +1,4 @@
--- What is printed as asked has at most 255 bytes, and so a row has room; of a line only the first 256 bytes matter.
+-- What is printed as asked has at most 255 bytes, and so a row has room; of a line only the first 260 bytes matter.
 -- Assumes nothing.
 use mathlib.Core.Path.{_≡_, refl, sym, ap, _∙_}
 use mathlib.Core.List.{List, [], _++_}
@@ -39,15 +39,15 @@ pub row-text : (r : Read·Report) (x : List ℕ) → reportIs r ≡ report x →
 unfolding rowOf reportText reportIs
 row-text r x e = sym (ap (λ (q : Report). reportText q x) e)
 
--- Of a line only the first 256 bytes matter: with more than 255 it is refused with 2.
+-- Of a line only the first 260 bytes matter: with more than 255 it is refused with 2.
 row-long : (x : List ℕ) → 255 < length x → rowOf x ≡ reportText (reportOf (bad 2 0)) []
 unfolding rowOf reportText refusedReport reportOf
 row-long x h = rw (← (report-bad x 2 0 (outcome-long x h)), asked-two 2 x refl, asked-two 2 [] refl)
 
-pub row-first : (x : List ℕ) → rowOf (take 256 x) ≡ rowOf x
+pub row-first : (x : List ℕ) → rowOf (take 260 x) ≡ rowOf x
 row-first x =
-    ⊎-elim (λ h. ap rowOf (take-all 256 x h))
-    (λ h. row-long (take 256 x) (omega (arith, length-take-le 256 x (omega arith))) ∙ sym (row-long x (omega arith))) (le-or-lt (length x) 256)
+    ⊎-elim (λ h. ap rowOf (take-all 260 x h))
+    (λ h. row-long (take 260 x) (omega (arith, length-take-le 260 x (omega arith))) ∙ sym (row-long x (omega arith))) (le-or-lt (length x) 260)
 
 -- THE PROGRAM: of blocks of input, wherever they end, the rows of the lines that the line reader hands over are the rows
 -- of the lines of the input.

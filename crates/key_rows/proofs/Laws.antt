@@ -65,11 +65,11 @@ row-long : (A L x : Bytes) → 255 < length x → keyRow A L x ≡ answerText 2 
 unfolding keyRow numberOf keptOf answerText
 row-long A L x h = rw (made-long A L x h, asked-two 2 x refl, asked-two 2 [] refl)
 
--- Of a line only the first 256 bytes matter.
-pub row-first : (A L x : Bytes) → keyRow A L (take 256 x) ≡ keyRow A L x
+-- Of a line only the first 260 bytes matter: with more than 255 it is refused.
+pub row-first : (A L x : Bytes) → keyRow A L (take 260 x) ≡ keyRow A L x
 row-first A L x =
-    ⊎-elim (λ h. ap (keyRow A L) (take-all 256 x h))
-    (λ h. row-long A L (take 256 x) (omega (arith, length-take-le 256 x (omega arith))) ∙ sym (row-long A L x (omega arith))) (le-or-lt (length x) 256)
+    ⊎-elim (λ h. ap (keyRow A L) (take-all 260 x h))
+    (λ h. row-long A L (take 260 x) (omega (arith, length-take-le 260 x (omega arith))) ∙ sym (row-long A L x (omega arith))) (le-or-lt (length x) 260)
 
 sets-front : (text out : Bytes) → length text ≤ length out → sets out 0 text ≡ text ++ drop (length text) out
 sets-front text out h = sets-eq text out 0 (omega arith) ∙ (let z : 0 + length text ≡ length text = omega arith in rw z refl)

@@ -4,10 +4,11 @@ use canonical::delivery::refused_table;
 use fields::put;
 use fields::put_asked;
 use fields::put_number;
-use likely::tested::form_tested;
+use likely::tested::form_hinted;
 use likely::whole::answer;
 use lines::next_line;
 use table::end_of;
+use table::hints::fill_hints;
 use verdict::Verdict;
 use verdict::check_likely;
 ghost use mathlib.Core.Path.{_≡_};
@@ -15,6 +16,7 @@ ghost use Prim.Native.Nat.{_+_, _≤_};
 ghost use lib.ListN.{length, take};
 ghost use lib.Seq.{sets};
 ghost use Rattle.fields.specs.Fields.{field, askedOf};
+ghost use Rattle.table.specs.Hints.{Hinted};
 ghost use Rattle.likely.specs.Both.{TestedBoth};
 ghost use Rattle.key_rows.specs.Keys.{answerText, keptText, keyRow, keysGiven, keyedIs};
 
@@ -55,19 +57,35 @@ fn put_answer(line: &[u8], number: u8, form: &[u8], len: usize, out: &mut [u8], 
     put_kept(number, form, len, out, q)
 }
 
-// Writes the row of a line at the place at, and gives the next place.
-fn put_row(line: &[u8], aliases: &[u8], likely: &[u8], out: &mut [u8], at: usize) -> usize
-    requires { ⌜ TestedBoth (now aliases) (now likely) × (at + 540 ≤ length (now out)) ⌝ }
+// Writes the row of a line at the place at, and gives the next place. What form holds before and after is of no account.
+fn put_row(
+    line: &[u8],
+    aliases: &[u8],
+    alias_hints: &[u16],
+    likely: &[u8],
+    likely_hints: &[u16],
+    form: &mut [u8],
+    out: &mut [u8],
+    at: usize,
+) -> usize
+    requires { ⌜ TestedBoth (now aliases) (now likely) × Hinted (now aliases) (now «alias_hints») × Hinted (now likely) (now «likely_hints») × (length (now form) ≡ 256) × (at + 540 ≤ length (now out)) ⌝ }
     ensures { λ r. ⌜ (r ≡ at + length (keyRow (now (aliases .entry)) (now (likely .entry)) (now (line .entry)))) × (now (out .exit) ≡ sets (now (out .entry)) at (keyRow (now (aliases .entry)) (now (likely .entry)) (now (line .entry)))) × (r ≤ at + 540) ⌝ }
 {
-    let mut form = form_buffer();
-    let a = answer(form_tested(true, line, aliases, likely, &mut form));
-    put_answer(line, a.number, &form, a.len, out, at)
+    let a = answer(form_hinted(true, line, aliases, alias_hints, likely, likely_hints, form));
+    put_answer(line, a.number, form, a.len, out, at)
 }
 
-// The rows over tables that passed the check.
-fn rows_tested(piece: &[u8], aliases: &[u8], likely: &[u8], out: &mut [u8]) -> Keyed
-    requires { ⌜ TestedBoth (now aliases) (now likely) ⌝ }
+// The rows over tables that passed the check, each with its hints.
+fn rows_hinted(
+    piece: &[u8],
+    aliases: &[u8],
+    alias_hints: &[u16],
+    likely: &[u8],
+    likely_hints: &[u16],
+    form: &mut [u8],
+    out: &mut [u8],
+) -> Keyed
+    requires { ⌜ TestedBoth (now aliases) (now likely) × Hinted (now aliases) (now «alias_hints») × Hinted (now likely) (now «likely_hints») × (length (now form) ≡ 256) ⌝ }
     ensures { λ r. ⌜ (keyedIs r (now (out .exit)) ≡ keysGiven (now (aliases .entry)) (now (likely .entry)) (now (piece .entry)) (now (out .entry))) × (r .used ≤ length (now (piece .entry))) × (r .len ≤ length (now (out .entry))) ⌝ }
 {
     let mut at = 0;
@@ -83,7 +101,16 @@ fn rows_tested(piece: &[u8], aliases: &[u8], likely: &[u8], out: &mut [u8]) -> K
             };
         }
         let e = end_of(piece, b'\n', at);
-        len = put_row(&piece[at..e], aliases, likely, out, len);
+        len = put_row(
+            &piece[at..e],
+            aliases,
+            alias_hints,
+            likely,
+            likely_hints,
+            form,
+            out,
+            len,
+        );
         at = next_line(piece.len(), e);
     }
     Keyed {
@@ -93,6 +120,26 @@ fn rows_tested(piece: &[u8], aliases: &[u8], likely: &[u8], out: &mut [u8]) -> K
         used: at,
         len,
     }
+}
+
+// Room for the hints of a table.
+fn hint_buffer() -> [u16; 16384]
+    ensures { λ r. ⌜ length r ≡ 16384 ⌝ }
+{
+    [0u16; 16384]
+}
+
+// The rows over tables that passed the check: their hints and the room for a form are made once for all lines.
+fn rows_tested(piece: &[u8], aliases: &[u8], likely: &[u8], out: &mut [u8]) -> Keyed
+    requires { ⌜ TestedBoth (now aliases) (now likely) ⌝ }
+    ensures { λ r. ⌜ (keyedIs r (now (out .exit)) ≡ keysGiven (now (aliases .entry)) (now (likely .entry)) (now (piece .entry)) (now (out .entry))) × (r .used ≤ length (now (piece .entry))) × (r .len ≤ length (now (out .entry))) ⌝ }
+{
+    let mut a = hint_buffer();
+    fill_hints(aliases, &mut a);
+    let mut l = hint_buffer();
+    fill_hints(likely, &mut l);
+    let mut form = form_buffer();
+    rows_hinted(piece, aliases, &a, likely, &l, &mut form, out)
 }
 
 // Tests the tables, then writes the rows of the lines of a piece at the front of out, as long as 540 bytes are free before

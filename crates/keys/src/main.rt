@@ -31,7 +31,7 @@ fn print_rows(piece: &[u8], aliases: &[u8], likely: &[u8], out: &mut [u8]) -> bo
 
 // Reads to the end of the input. A proved loop has to end, so it counts its turns down from a number that no run uses up.
 fn answer_input(aliases: &[u8], likely: &[u8], block: &mut [u8], piece: &mut [u8], out: &mut [u8])
-    requires { ⌜ (length (now block) ≡ 65536) × (length (now piece) ≡ 65792) × (540 ≤ length (now out)) ⌝ }
+    requires { ⌜ (length (now block) ≡ 98304) × (length (now piece) ≡ 98564) × (540 ≤ length (now out)) ⌝ }
 {
     let mut kept: usize = 0;
     let mut turns = u64::MAX;
@@ -52,14 +52,21 @@ fn answer_input(aliases: &[u8], likely: &[u8], block: &mut [u8], piece: &mut [u8
     }
 }
 
-// Room for a block of input behind an unfinished line.
-fn piece_buffer() -> [u8; 65792]
-    ensures { λ r. ⌜ 65792 ≡ length r ⌝ }
+// Room for a block of input. The larger it is, the less the test of the tables costs a line.
+fn block_buffer() -> [u8; 98304]
+    ensures { λ r. ⌜ 98304 ≡ length r ⌝ }
 {
-    [0; 65792]
+    [0; 98304]
 }
 
-// Room for the rows of a piece of usual lines.
+// Room for a block of input behind an unfinished line.
+fn piece_buffer() -> [u8; 98564]
+    ensures { λ r. ⌜ 98564 ≡ length r ⌝ }
+{
+    [0; 98564]
+}
+
+// Room for the rows of a piece of usual lines: the row of `en` has 8 bytes, and the line 3 with its 0A.
 fn out_buffer() -> [u8; 262144]
     ensures { λ r. ⌜ 262144 ≡ length r ⌝ }
 {
@@ -67,7 +74,7 @@ fn out_buffer() -> [u8; 262144]
 }
 
 fn run(aliases: &[u8], likely: &[u8]) {
-    let mut block = io::large_buffer();
+    let mut block = block_buffer();
     let mut piece = piece_buffer();
     let mut out = out_buffer();
     answer_input(aliases, likely, &mut block, &mut piece, &mut out);

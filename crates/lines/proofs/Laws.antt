@@ -22,29 +22,29 @@ pub next-end : (run b : ℕ) → b ≡ 10 → nextRun run b ≡ 0
 unfolding nextRun
 next-end run b e = rw (eq-eqb b 10 e)
 
-pub next-more : (run b : ℕ) → (b ≡ 10 → ⊥) → run < 256 → nextRun run b ≡ suc run
+pub next-more : (run b : ℕ) → (b ≡ 10 → ⊥) → run < 260 → nextRun run b ≡ suc run
 unfolding nextRun
-next-more run b f h = rw (ne-eqb b 10 f, lt-ltb run 256 h)
+next-more run b f h = rw (ne-eqb b 10 f, lt-ltb run 260 h)
 
-pub next-full : (run b : ℕ) → (b ≡ 10 → ⊥) → 256 ≤ run → nextRun run b ≡ run
+pub next-full : (run b : ℕ) → (b ≡ 10 → ⊥) → 260 ≤ run → nextRun run b ≡ run
 unfolding nextRun
-next-full run b f h = rw (ne-eqb b 10 f, le-ltb run 256 h)
+next-full run b f h = rw (ne-eqb b 10 f, le-ltb run 260 h)
 
 pub kept-end : (run b : ℕ) → b ≡ 10 → kept run b ≡ b ∷ []
 unfolding kept
 kept-end run b e = rw (eq-eqb b 10 e)
 
-pub kept-more : (run b : ℕ) → (b ≡ 10 → ⊥) → run < 256 → kept run b ≡ b ∷ []
+pub kept-more : (run b : ℕ) → (b ≡ 10 → ⊥) → run < 260 → kept run b ≡ b ∷ []
 unfolding kept
-kept-more run b f h = rw (ne-eqb b 10 f, lt-ltb run 256 h)
+kept-more run b f h = rw (ne-eqb b 10 f, lt-ltb run 260 h)
 
-pub kept-full : (run b : ℕ) → (b ≡ 10 → ⊥) → 256 ≤ run → kept run b ≡ []
+pub kept-full : (run b : ℕ) → (b ≡ 10 → ⊥) → 260 ≤ run → kept run b ≡ []
 unfolding kept
-kept-full run b f h = rw (ne-eqb b 10 f, le-ltb run 256 h)
+kept-full run b f h = rw (ne-eqb b 10 f, le-ltb run 260 h)
 
-byte-cases : {P : Type 0} (run b : ℕ) → (b ≡ 10 → P) → ((b ≡ 10 → ⊥) → run < 256 → P) → ((b ≡ 10 → ⊥) → 256 ≤ run → P) → P
+byte-cases : {P : Type 0} (run b : ℕ) → (b ≡ 10 → P) → ((b ≡ 10 → ⊥) → run < 260 → P) → ((b ≡ 10 → ⊥) → 260 ≤ run → P) → P
 byte-cases run b end few full =
-    bool-cases (eqb b 10) (λ e. end (eqb-true b 10 e)) (λ e. ⊎-elim (full (eqb-false b 10 e)) (few (eqb-false b 10 e)) (le-or-lt 256 run))
+    bool-cases (eqb b 10) (λ e. end (eqb-true b 10 e)) (λ e. ⊎-elim (full (eqb-false b 10 e)) (few (eqb-false b 10 e)) (le-or-lt 260 run))
 
 -- Squeezing a piece after a piece is squeezing both.
 pub squeezed-append : (run : ℕ) (x y : Bytes) → squeezed run (x ++ y) ≡ squeezed run x ++ squeezed (runAfter run x) y
@@ -96,32 +96,32 @@ line-open c [] x (more f p) = rw (ne-eqb c 10 f) (open-one c x)
 line-open c (d ∷ u) x (more f p) = rw (ne-eqb c 10 f, line-open d u x p)
 
 -- a full line takes no more
-line-full : (u : Bytes) (b : ℕ) (x : Bytes) → Plain u → (b ≡ 10 → ⊥) → length u ≡ 256 → map (take 256) (lines (u ++ (b ∷ x))) ≡ map (take 256) (lines (u ++ x))
+line-full : (u : Bytes) (b : ℕ) (x : Bytes) → Plain u → (b ≡ 10 → ⊥) → length u ≡ 260 → map (take 260) (lines (u ++ (b ∷ x))) ≡ map (take 260) (lines (u ++ x))
 unfolding first later
 line-full [] b x p f e = absurd (omega arith)
 line-full (c ∷ u) b x p f e =
     rw (line-open c u (b ∷ x) p, line-open c u x p, ne-eqb b 10 f)
-    (ap (λ (l : Bytes). l ∷ map (take 256) (later x)) (take-at (c ∷ u) (b ∷ first x) 256 e ∙ sym (take-at (c ∷ u) (first x) 256 e)))
+    (ap (λ (l : Bytes). l ∷ map (take 260) (later x)) (take-at (c ∷ u) (b ∷ first x) 260 e ∙ sym (take-at (c ∷ u) (first x) 260 e)))
 
 -- a line by itself
-line-alone : (u : Bytes) → Plain u → length u ≤ 256 → lines u ≡ map (take 256) (lines u)
+line-alone : (u : Bytes) → Plain u → length u ≤ 260 → lines u ≡ map (take 260) (lines u)
 unfolding lines first later
 line-alone [] p h = refl
-line-alone (c ∷ u) p h = rw (← (append-nil u), line-open c u [] p) (ap (λ (l : Bytes). l ∷ []) (sym (take-all 256 (c ∷ (u ++ [])) (omega (arith, length-append u [])))))
+line-alone (c ∷ u) p h = rw (← (append-nil u), line-open c u [] p) (ap (λ (l : Bytes). l ∷ []) (sym (take-all 260 (c ∷ (u ++ [])) (omega (arith, length-append u [])))))
 
--- What is squeezed has the lines of the input, each cut to 256 bytes.
+-- What is squeezed has the lines of the input, each cut to 260 bytes.
 snoc-length : (u : Bytes) (b : ℕ) → length (u ++ (b ∷ [])) ≡ suc (length u)
 snoc-length u b = omega (arith, length-append u (b ∷ []))
 
-squeezed-lines : (u x : Bytes) → Plain u → length u ≤ 256 → lines (u ++ squeezed (length u) x) ≡ map (take 256) (lines (u ++ x))
+squeezed-lines : (u x : Bytes) → Plain u → length u ≤ 260 → lines (u ++ squeezed (length u) x) ≡ map (take 260) (lines (u ++ x))
 unfolding squeezed
 squeezed-lines u [] p h = rw append-nil (line-alone u p h)
 squeezed-lines u (b ∷ x) p h = byte-cases (length u) b
-    (λ e. rw (kept-end (length u) b e, next-end (length u) b e, e, line-end u (squeezed 0 x) p, line-end u x p, squeezed-lines [] x none (omega arith)) (ap (λ (l : Bytes). l ∷ map (take 256) (lines x)) (sym (take-all 256 u h))))
+    (λ e. rw (kept-end (length u) b e, next-end (length u) b e, e, line-end u (squeezed 0 x) p, line-end u x p, squeezed-lines [] x none (omega arith)) (ap (λ (l : Bytes). l ∷ map (take 260) (lines x)) (sym (take-all 260 u h))))
     (λ f k. rw (kept-more (length u) b f k, next-more (length u) b f k, ← (snoc-length u b), ← (append-assoc u (b ∷ []) (squeezed (length (u ++ (b ∷ []))) x)), ← (append-assoc u (b ∷ []) x)) (squeezed-lines (u ++ (b ∷ [])) x (plain-snoc b f p) (omega (arith, snoc-length u b))))
     (λ f k. rw (kept-full (length u) b f k, next-full (length u) b f k) (squeezed-lines u x p h ∙ sym (line-full u b x p f (omega arith))))
 
-pub lines-squeezed : (x : Bytes) → lines (squeezed 0 x) ≡ map (take 256) (lines x)
+pub lines-squeezed : (x : Bytes) → lines (squeezed 0 x) ≡ map (take 260) (lines x)
 lines-squeezed x = squeezed-lines [] x none (omega arith)
 
 -- The whole lines of what is taken in, and the unfinished line behind them.
@@ -166,9 +166,9 @@ handed-lines u (b ∷ bs) p =
     rw (n, taken-parts u b c, take-at (c .whole) (c .rest) (length (c .whole)) refl, drop-at (c .whole) (c .rest) (length (c .whole)) refl, handed-lines (c .rest) bs (c .plain), ← (c .apart (c .rest ++ squeezed (length (c .rest)) (together bs))), c .size, squeezed-append (length u) b (together bs), ← (append-assoc u (squeezed (length u) b) (squeezed (runAfter (length u) b) (together bs))), c .parts)
     (ap lines (sym (append-assoc (c .whole) (c .rest) (squeezed (runAfter (length u) b) (together bs)))))
 
--- THE LINE READER: the lines of the pieces that are handed over are the lines of the input, each cut to 256 bytes,
+-- THE LINE READER: the lines of the pieces that are handed over are the lines of the input, each cut to 260 bytes,
 -- wherever the blocks of input end.
-pub all-lines : (bs : List Bytes) → allLines (handed [] bs) ≡ map (take 256) (lines (together bs))
+pub all-lines : (bs : List Bytes) → allLines (handed [] bs) ≡ map (take 260) (lines (together bs))
 all-lines bs = handed-lines [] bs none ∙ lines-squeezed (together bs)
 
 -- Bounds.
@@ -181,7 +181,7 @@ run-fits run b at h = byte-cases run b (λ e. rw (next-end run b e) (omega arith
 -- A block that is being taken in: what is left of it settles the rest.
 pub record Taking (block piece₀ piece : Bytes) (run end n i : ℕ) : Type 0 where
   pub within : i ≤ length block
-  pub few : n ≤ 256
+  pub few : n ≤ 260
   pub fits : n ≤ end
   pub room : end + length block ≤ run + length block + i
   pub same : length piece ≡ length piece₀
@@ -189,11 +189,11 @@ pub record Taking (block piece₀ piece : Bytes) (run end n i : ℕ) : Type 0 wh
   pub left : runAfter n (drop i block) ≡ runAfter run block
   pub bytes : sets piece end (squeezed n (drop i block)) ≡ sets piece₀ run (squeezed run block)
 
-pub taking-start : (block piece : Bytes) (run : ℕ) → run ≤ 256 → Taking block piece piece run run run 0
+pub taking-start : (block piece : Bytes) (run : ℕ) → run ≤ 260 → Taking block piece piece run run run 0
 taking-start block piece run h = record { within = omega arith; few = h; fits = omega arith; room = omega arith; same = refl; total = refl; left = refl; bytes = refl }
 
 pub taking-more : (block piece₀ piece piece′ : Bytes) (run end end′ n n′ i : ℕ) → Taking block piece₀ piece run end n i → i < length block
-    → end′ ≡ end + length (kept n (getD block i 0)) → piece′ ≡ sets piece end (kept n (getD block i 0)) → n′ ≡ nextRun n (getD block i 0) → n′ ≤ 256
+    → end′ ≡ end + length (kept n (getD block i 0)) → piece′ ≡ sets piece end (kept n (getD block i 0)) → n′ ≡ nextRun n (getD block i 0) → n′ ≤ 260
     → Taking block piece₀ piece′ run end′ n′ (i + 1)
 taking-more block piece₀ piece piece′ run end end′ n n′ i t h e p q k =
     let s = squeezed-more block i h n in
@@ -213,7 +213,7 @@ taking-more block piece₀ piece piece′ run end end′ n n′ i t h e p q k =
 
 -- all of it was
 pub taking-end : (block piece₀ piece : Bytes) (run end n i : ℕ) → Taking block piece₀ piece run end n i → length block ≤ i
-    → (end ≡ run + length (squeezed run block)) × ((end - n) + runAfter run block ≡ end) × (piece ≡ sets piece₀ run (squeezed run block)) × (end ≤ run + length block) × (end ≤ end - n + 256)
+    → (end ≡ run + length (squeezed run block)) × ((end - n) + runAfter run block ≡ end) × (piece ≡ sets piece₀ run (squeezed run block)) × (end ≤ run + length block) × (end ≤ end - n + 260)
 unfolding squeezed runAfter
 taking-end block piece₀ piece run end n i t h =
     let d = drop-of-length-le block h in

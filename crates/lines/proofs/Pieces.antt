@@ -153,10 +153,10 @@ module _ (row : Bytes → Bytes) (need : ℕ) where
   pub used-rest : (room : ℕ) (x : Bytes) (from : ℕ) → need ≤ room → from < length x → 0 < pieceUsed row need room (take (length x - from) (drop from x))
   used-rest room x from h k = used-some room (take (length x - from) (drop from x)) h (omega (arith, rest-length x from))
 
--- A program over the line reader: where of a line only the first 256 bytes matter, the rows of the lines that are handed
+-- A program over the line reader: where of a line only the first 260 bytes matter, the rows of the lines that are handed
 -- over are the rows of the lines of the input, wherever its blocks end.
-module _ (row : Bytes → Bytes) (first : (x : Bytes) → row (take 256 x) ≡ row x) where
-  rows-first : (ls : List Bytes) → rowsText row (map (take 256) ls) ≡ rowsText row ls
+module _ (row : Bytes → Bytes) (first : (x : Bytes) → row (take 260 x) ≡ row x) where
+  rows-first : (ls : List Bytes) → rowsText row (map (take 260) ls) ≡ rowsText row ls
   unfolding rowsText
   rows-first [] = refl
   rows-first (l ∷ ls) = ap₂ (λ (a b : Bytes). a ++ b) (first l) (rows-first ls)

@@ -1,4 +1,4 @@
--- The line reader: of a line only the first 256 bytes are kept, and what is handed over piece by piece are whole lines.
+-- The line reader: of a line only the first 260 bytes are kept, and what is handed over piece by piece are whole lines.
 -- Assumes nothing.
 use mathlib.Core.Bool.{cond}
 use mathlib.Core.List.{List, [], _∷_, _++_}
@@ -12,13 +12,13 @@ Bytes = List ℕ
 
 -- how many bytes of the line are kept after one more byte; 0A begins a new line
 unfoldable pub nextRun : ℕ → ℕ → ℕ
-nextRun run b = cond (eqb b 10) 0 (cond (ltb run 256) (suc run) run)
+nextRun run b = cond (eqb b 10) 0 (cond (ltb run 260) (suc run) run)
 
--- the byte, if it is kept: 0A, or one of the first 256 of its line
+-- the byte, if it is kept: 0A, or one of the first 260 of its line
 unfoldable pub kept : ℕ → ℕ → Bytes
-kept run b = cond (eqb b 10) (b ∷ []) (cond (ltb run 256) (b ∷ []) [])
+kept run b = cond (eqb b 10) (b ∷ []) (cond (ltb run 260) (b ∷ []) [])
 
--- the bytes with every line cut to its first 256, and how many of the last line are kept after them, where `run` bytes of
+-- the bytes with every line cut to its first 260, and how many of the last line are kept after them, where `run` bytes of
 -- the current line were kept before
 unfoldable pub squeezed : ℕ → Bytes → Bytes
 squeezed run [] = []

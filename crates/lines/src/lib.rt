@@ -1,5 +1,6 @@
-// The line reader of the programs: blocks of input come in, whole lines go out, and of a line only the first 256 bytes
-// are kept, as with more than 255 an identifier is refused. So an unfinished line never takes more than 256 bytes.
+// The line reader of the programs: blocks of input come in, whole lines go out, and of a line only the first 260 bytes
+// are kept: an identifier of more than 255 is refused, and a few bytes may stand before one. So an unfinished line never
+// takes more than 260 bytes.
 ghost use mathlib.Core.Path.{_≡_};
 ghost use Prim.Native.Nat.{_+_, _-_, _≤_};
 ghost use lib.ListN.{length, take, drop};
@@ -15,13 +16,13 @@ pub struct Taken {
 
 // How many bytes of the line are kept after one more byte.
 fn next_run(run: usize, b: u8) -> usize
-    requires { ⌜ run ≤ 256 ⌝ }
-    ensures { λ r. ⌜ (r ≡ nextRun run b) × (r ≤ 256) ⌝ }
+    requires { ⌜ run ≤ 260 ⌝ }
+    ensures { λ r. ⌜ (r ≡ nextRun run b) × (r ≤ 260) ⌝ }
 {
     if b == b'\n' {
         return 0;
     }
-    if run < 256 {
+    if run < 260 {
         return run + 1;
     }
     run
@@ -36,7 +37,7 @@ fn put_kept(run: usize, b: u8, out: &mut [u8], at: usize) -> usize
         out[at] = b;
         return at + 1;
     }
-    if run >= 256 {
+    if run >= 260 {
         return at;
     }
     out[at] = b;
@@ -45,9 +46,9 @@ fn put_kept(run: usize, b: u8, out: &mut [u8], at: usize) -> usize
 
 // Takes a block of input in behind the first `run` bytes of the piece, which are the unfinished line so far.
 pub fn take_in(block: &[u8], piece: &mut [u8], run: usize) -> Taken
-    requires { ⌜ (run ≤ 256) × (run + length (now block) ≤ length (now piece)) ⌝ }
+    requires { ⌜ (run ≤ 260) × (run + length (now block) ≤ length (now piece)) ⌝ }
     ensures { λ r. ⌜ (r .end ≡ run + length (squeezed run (now (block .entry)))) × (r .whole + runAfter run (now (block .entry)) ≡ r .end) × (now (piece .exit) ≡ sets (now (piece .entry)) run (squeezed run (now (block .entry))))
-        × (r .end ≤ run + length (now (block .entry))) × (r .end ≤ r .whole + 256) ⌝ }
+        × (r .end ≤ run + length (now (block .entry))) × (r .end ≤ r .whole + 260) ⌝ }
 {
     let mut end = run;
     let mut n = run;

@@ -8,7 +8,7 @@ use Rattle.inspect.proofs.answer_input.Statement.{statement}
 use Rattle.inspect.proofs.answer_input.Tie as tie
 
 abbrev Inv-loop : tie.InvT-loop
-Inv-loop block₀ piece₀ out₀ kept₀ turns₀ block piece out kept turns = (kept ≤ 256) × (length block ≡ 65536) × (length piece ≡ 65792) × (512 ≤ length out) × (length block₀ ≡ 65536) × (length piece₀ ≡ 65792) × (length out ≡ length out₀)
+Inv-loop block₀ piece₀ out₀ kept₀ turns₀ block piece out kept turns = (kept ≤ 260) × (length block ≡ 65536) × (length piece ≡ 65796) × (512 ≤ length out) × (length block₀ ≡ 65536) × (length piece₀ ≡ 65796) × (length out ≡ length out₀)
 
 abbrev μ-loop : tie.MeasureT-loop
 μ-loop block₀ piece₀ out₀ kept₀ turns₀ block piece out kept turns = turns
