@@ -1,6 +1,7 @@
 pub mod Selection
 pub mod Walk
 pub mod Picks
+pub mod Judged
 pub mod Keys
 pub mod Pending
 pub mod Trim

@@ -1,4 +1,5 @@
 pub mod Section
+pub mod Judged
 pub mod Alias
 pub mod Three
 pub mod Tested

@@ -24,6 +24,7 @@ pub mod buffer;
 pub mod delivery;
 pub mod extensions;
 pub mod form;
+pub mod heads;
 pub mod section;
 pub mod sorted;
 pub mod three;

@@ -7,7 +7,7 @@ use Prim.Native.Nat.{ℕ, _≤_}
 use lib.Dec.{ltb}
 use lib.ListN.{length, drop, getD}
 use Rattle.standard.specs.Table.{Found as Located, located, locatedFrom}
-use Rattle.table.specs.Lines.{lines}
+use Rattle.table.specs.Lines.{endOf, lines}
 
 -- a comes before b, by unsigned bytes from the front; a proper front comes first
 unfoldable pub below : List ℕ → List ℕ → Bool
@@ -42,11 +42,12 @@ unfoldable pub notBelow : List ℕ → List (List ℕ) → Bool
 notBelow p [] = true
 notBelow p (l ∷ ls) = not (below l p)
 
--- what line_start gives: a line's start at or before `from`, and not before lo
+-- what line_start gives: the start of the line that `from` is in, and not before lo
 pub record LineStart (t : List ℕ) (lo from r : ℕ) : Type 0 where
   pub low : lo ≤ r
   pub high : r ≤ from
   pub opens : Opens t lo → Opens t r
+  pub ends : endOf 10 t r ≡ endOf 10 t from
 
 -- i is where the row is, if there is one
 pub record Landed (t key : List ℕ) (i : ℕ) : Type 0 where

@@ -134,7 +134,8 @@ fn locate(t: &[u8], key: &[u8]) -> usize
     while lo < hi {
         let mid = lo + (hi - lo) / 2;
         let m = line_start(t, lo, mid);
-        let e = end_of(t, 10, m);
+        // no 0A stands between m and mid
+        let e = end_of(t, 10, mid);
         if below_row(&t[m..e], key) {
             lo = e + 1;
         } else {

@@ -43,8 +43,8 @@ ends c =
     let t = c .before .before .before .before .before .before .args .t .now in (
       s .low,
       omega (arith, s .high),
-      rw (c .end-of .ensures) (end-ge 10 t m (omega (arith, s .high))),
-      rw (c .end-of .ensures) (end-le 10 t m),
+      rw (c .end-of .ensures ∙ sym (s .ends)) (end-ge 10 t m (omega (arith, s .high))),
+      rw (c .end-of .ensures ∙ sym (s .ends)) (end-le 10 t m),
     )
 
 sub-below-row : tie.Need-sub-below-row Inv-loop μ-loop
@@ -70,7 +70,7 @@ loop-again c =
     let e = c .before .before .before in
     let l = e .before .before .before in (
       search needs,
-      λ s. probe-below _ _ _ _ _ _ _ (l .loop .inv .1 s) (l .loop .inv .0) (e .before .line-start .ensures) (omega arith) (e .end-of .ensures) (sym (c .before .below-row .ensures) ∙ c .if1 .taken),
+      λ s. probe-below _ _ _ _ _ _ _ (l .loop .inv .1 s) (l .loop .inv .0) (e .before .line-start .ensures) (omega arith) (e .end-of .ensures ∙ sym (e .before .line-start .ensures .ends)) (sym (c .before .below-row .ensures) ∙ c .if1 .taken),
     )
 
 loop-less-2 : tie.Need-loop-less-2 Inv-loop μ-loop
@@ -81,7 +81,7 @@ loop-again-2 c =
     let e = c .before .before .before in
     let l = e .before .before .before in (
       omega (arith, ends e),
-      λ s. probe-above _ _ _ _ _ _ _ (l .loop .inv .1 s) (l .loop .inv .0) (e .before .line-start .ensures) (omega arith) (e .end-of .ensures) (sym (c .before .below-row .ensures) ∙ c .if1 .left),
+      λ s. probe-above _ _ _ _ _ _ _ (l .loop .inv .1 s) (l .loop .inv .0) (e .before .line-start .ensures) (omega arith) (e .end-of .ensures ∙ sym (e .before .line-start .ensures .ends)) (sym (c .before .below-row .ensures) ∙ c .if1 .left),
     )
 
 returns : tie.Need-returns Inv-loop μ-loop

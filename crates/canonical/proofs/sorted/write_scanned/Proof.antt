@@ -1,4 +1,4 @@
--- `canonical::sorted::write_sorted` meets its contract. The loop's invariant: what is pending, put at its place, gives the result.
+-- `canonical::sorted::write_scanned` meets its contract. The loop's invariant: what is pending, put at its place, gives the result.
 -- Assumes nothing.
 use borrow.Author.Needs.{needs}
 use native.Mathlib.Omega.{arith}
@@ -9,10 +9,10 @@ use lib.Seq.{length-sets}
 use Rattle.canonical.proofs.Pending as sorted
 use Rattle.canonical.proofs.Trim as trim
 use Rattle.canonical.proofs.Writes as writes
-use Rattle.canonical.proofs.sorted.write_sorted.Statement.{statement}
-use Rattle.canonical.proofs.sorted.write_sorted.Tie as tie
-use Rattle.canonical.proofs.sorted.write_sorted.Reads as reads
-use Rattle.canonical.proofs.sorted.write_sorted.Lts as lts
+use Rattle.canonical.proofs.sorted.write_scanned.Statement.{statement}
+use Rattle.canonical.proofs.sorted.write_scanned.Tie as tie
+use Rattle.canonical.proofs.sorted.write_scanned.Reads as reads
+use Rattle.canonical.proofs.sorted.write_scanned.Lts as lts
 
 abbrev Inv-loop : tie.InvT-loop
 Inv-loop s width trim out₀ at put₀ last₀ out put last = writes.Writing width trim s out₀ at out put last
@@ -102,8 +102,8 @@ loop-again c =
     writes.writing-next _ _ _ _ _ (b .pre .2) (b .pre .3) _ _ _ _ (d .before .before .before .next-above .ensures) (l .inv) (d .before .before .if1 .left) _
     (d .before .group-end .ensures) _ (d .trimmed-end .ensures) _ _ (p .put-tidy .ensures .0) (p .put-tidy .ensures .1)
 
-pub write-sorted-spec : {M : Type 1} → statement M
-write-sorted-spec =
+pub write-scanned-spec : {M : Type 1} → statement M
+write-scanned-spec =
     tie.close
     (tie.spec
     Inv-loop
