@@ -1,16 +1,16 @@
 -- Reading a section that was written; and that the subtags of an accepted input are plain. Assumes nothing.
-use mathlib.Core.Path.{_≡_, refl, sym, ap, ap₂, _∙_}
+use mathlib.Core.Path.{_≡_, refl, ap, ap₂, _∙_}
 use mathlib.Core.Bool.{Bool, true, false, cond, _&&_, _||_}
 use mathlib.Core.List.{List, [], _∷_, _++_}
-use mathlib.Core.Option.{Option, none, some}
+use mathlib.Core.Option.{none}
 use Prim.Native.Nat.{ℕ, suc, _+_, _≤_, _<_}
 use native.Mathlib.Omega.{arith}
 use lib.Dec.{leb, eqb}
 use lib.ListN.{length}
-use borrow.Author.Tests.{leb-true, eqb-true, lt-leb, le-leb}
+use borrow.Author.Tests.{leb-true, eqb-true}
 use Rattle.standard.specs.Tag.{Tag, onto, label}
 use Rattle.standard.specs.Grammar.{separator, small, capital, digit, lowerByte, wrongLength, sizeOf}
-use Rattle.standard.specs.Reading.{split, afterFirst, clean, unclean, badTag, wrongSize, Fault}
+use Rattle.standard.specs.Reading.{split, afterFirst, clean, unclean, badTag, wrongSize}
 use Rattle.subtag.specs.Subtags.{PlainBytes, PlainTag}
 use Rattle.canonical.specs.Section.{tagsOf, led, Led, Plain}
 use Rattle.subtag.proofs.Walk.{split-sep, split-byte, split-cons, label-sep, after-sep}

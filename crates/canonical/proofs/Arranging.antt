@@ -1,24 +1,23 @@
 -- One extension, and the extensions in the order of their singletons. Assumes nothing.
-use mathlib.Core.Path.{_≡_, refl, sym, ap, ap₂, subst, _∙_}
-use mathlib.Core.Bool.{Bool, true, false, cond}
+use mathlib.Core.Path.{_≡_, refl, sym, ap, ap₂, _∙_}
+use mathlib.Core.Bool.{Bool, true, false}
 use mathlib.Core.List.{List, [], _∷_, _++_, map}
-use Prim.Native.Nat.{ℕ, zero, suc, _+_, _-_, _≤_, _<_}
+use Prim.Native.Nat.{ℕ, _+_, _-_, _≤_, _<_}
 use native.Mathlib.Omega.{arith}
 use lib.ListN.{length, getD, take, drop, length-append, length-map, length-drop}
 use lib.Seq.{sets, length-sets, take-all, length-take-le}
-use Rattle.standard.specs.Tag.{Tag, same, sortBy, label}
+use Rattle.standard.specs.Tag.{Tag, same, label}
 use Rattle.standard.specs.Grammar.{separator, lowerByte, grouped, flat, uTag, tTag, arrangeKeywords, arrangeFields, arrangeOne, arrange}
 use Rattle.standard.specs.Reading.{split}
 use Rattle.canonical.specs.declared.sorted.Head.{Head}
 use Rattle.subtag.specs.Bytes.{tidyByte}
-use Rattle.subtag.specs.Subtags.{PlainTag}
 use Rattle.canonical.specs.Section.{tagsOf, led, Led, Plain, Longer, Each, Arrangeable, FieldsOk, isHead, noHead, pickFrom, endFrom, trimmed, sortedTags, sortedBytes, arrangedTags}
 use Rattle.standard.proofs.Tags.{same-eq, same-refl}
 use Rattle.subtag.proofs.Walk.{at-sep, at-byte}
-use Rattle.canonical.proofs.Walk.{Step, step, section-bytes}
+use Rattle.canonical.proofs.Walk.{step, section-bytes}
 use Rattle.subtag.proofs.Stores.{sets-append}
-use Rattle.canonical.proofs.Boundary.{Parted, parted, keywords, Keywords, plain-parts}
-use Rattle.canonical.proofs.Pending.{led-append, length-led, cut, grouped-all, section-size, pending, pending-start, pending-next, pending-none, found-holds, Found, Ahead, ahead, head-tags, GroupAt, group-at}
+use Rattle.canonical.proofs.Boundary.{parted, keywords, plain-parts}
+use Rattle.canonical.proofs.Pending.{led-append, length-led, cut, grouped-all, pending, pending-start, pending-next, pending-none, found-holds, Found, Ahead, ahead, head-tags, GroupAt, group-at}
 use lib.Dec.{eqb}
 use borrow.Author.Tests.{eqb-true, eqb-false}
 use Rattle.canonical.proofs.Writes.{sorted-fits, trimmed-label}

@@ -1,11 +1,10 @@
 -- A section parted at a subtag's separator; groups of one; heads of two bytes. Assumes nothing.
 use mathlib.Core.Path.{_≡_, refl, sym, ap, ap₂, subst, _∙_}
-use mathlib.Core.Bool.{Bool, true, false, cond}
-use mathlib.Core.List.{List, [], _∷_, _++_, map, append-assoc}
-use Prim.Native.Nat.{ℕ, zero, suc, _+_, _-_, _≤_, _<_, Ordering, Ordering·lt, Ordering·eq, Ordering·gt}
+use mathlib.Core.Bool.{Bool, true, false}
+use mathlib.Core.List.{List, [], _∷_, _++_, map}
+use Prim.Native.Nat.{ℕ, suc, _+_, _-_, _≤_, _<_, Ordering, Ordering·lt, Ordering·eq, Ordering·gt}
 use native.Mathlib.Omega.{arith}
-use lib.Dec.{leb}
-use lib.ListN.{length, take, drop, length-append, length-drop}
+use lib.ListN.{length, take, drop, length-drop}
 use lib.Seq.{take-add, take-all, length-take-le, drop-drop}
 use borrow.Author.Tests.{lt-leb, le-leb}
 use Rattle.standard.specs.Tag.{Tag, onto, order, insertBy, sortBy, itself, label}
@@ -13,8 +12,8 @@ use Rattle.standard.specs.Grammar.{separator, lowerByte, Groups, withTag, group
 use Rattle.standard.specs.Reading.{split, afterFirst}
 use Rattle.subtag.specs.Subtags.{PlainTag}
 use Rattle.canonical.specs.Section.{tagsOf, led, Led, Plain, isHead, endFrom, trimmed, sortedTags, sortedBytes, Longer}
-use Rattle.subtag.proofs.Walk.{split-sep, split-byte, split-cons, label-sep, label-byte, after-sep, label-fits}
-use Rattle.canonical.proofs.Walk.{led-sep, Rest, split-rest}
+use Rattle.subtag.proofs.Walk.{split-byte, split-cons, label-sep, label-byte, after-sep, label-fits}
+use Rattle.canonical.proofs.Walk.{led-sep, split-rest}
 use Rattle.canonical.proofs.Pending.{led-append, length-led, grouped-all, end-before}
 
 -- a subtag in front of a section

@@ -1,24 +1,21 @@
 -- The three of the canonical form, from the input's bytes and the language's alias. Assumes nothing.
-use mathlib.Core.Path.{_≡_, refl, sym, ap, ap₂, _∙_, subst}
-use mathlib.Core.Bool.{Bool, true, false}
-use mathlib.Core.List.{List, [], _∷_, _++_, map}
+use mathlib.Core.Path.{_≡_, refl, sym, ap, ap₂, _∙_}
+use mathlib.Core.Bool.{false}
+use mathlib.Core.List.{List, [], _∷_, _++_}
 use mathlib.Core.Logic.{⊎-elim}
 use mathlib.Core.Option.{Option, none, some}
-use Prim.Native.Nat.{ℕ, suc, _+_, _-_, _≤_, _<_}
+use Prim.Native.Nat.{ℕ, _+_, _-_, _≤_}
 use native.Mathlib.Omega.{arith}
 use lib.ListN.{length, take, drop, length-append}
 use lib.Seq.{sets}
+use Rattle.reader.specs.declared.Parts.{Parts as ReaderParts}
 use Rattle.standard.specs.Tag.{Tag, pick, replace}
-use Rattle.standard.specs.Grammar.{isLanguage, aScript, aRegion, title, upper}
 use Rattle.standard.specs.Identifier.{Identifier, Three, three, Tables, languageAlias, aliased, canonicalForm, part}
 use Rattle.standard.specs.Reading.{optional, split, identifierOf, faultOf}
 use Rattle.standard.specs.Table.{lookup, rows, printThree, languageKey, scriptKey, regionKey, tablesOf, check}
-use Rattle.standard.proofs.Round.{Shaped, Printable}
-use Rattle.standard.proofs.Sound.{Raw}
+use Rattle.standard.proofs.Round.{Shaped}
 use Rattle.standard.proofs.Closed.{canon-printable}
 use Rattle.standard.proofs.Table.{shaped-tables}
-use Rattle.reader.specs.declared.Parts.{Parts as ReaderParts}
-use Rattle.reader.specs.Cuts.{Cuts, cutsOf}
 use Rattle.reader.specs.Parts.{partsOf}
 use Rattle.table.specs.Lines.{endOf}
 use Rattle.subtag.specs.Bytes.{raised}

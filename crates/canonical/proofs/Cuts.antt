@@ -1,19 +1,19 @@
 -- The parts of an accepted identifier, by the places where they end. Assumes nothing.
 use mathlib.Core.Path.{_≡_, refl, sym, ap, ap₂, _∙_, subst}
-use mathlib.Core.Bool.{Bool, true, false, _&&_}
+use mathlib.Core.Bool.{true, false}
 use mathlib.Core.List.{List, [], _∷_, _++_, map, append-assoc, append-nil, tail-eq-of-cons-eq}
-use mathlib.Core.Option.{Option, none, some, Option·some-ne-none}
-use Prim.Native.Nat.{ℕ, zero, suc, _+_, _-_, _≤_, _<_}
+use mathlib.Core.Option.{none, Option·some-ne-none}
+use Prim.Native.Nat.{ℕ, suc, _+_, _-_, _≤_, _<_}
 use native.Mathlib.Numerals.{add-one}
 use native.Mathlib.Omega.{arith}
 use lib.Dec.{leb}
-use lib.ListN.{length, getD, take, drop, length-append, length-drop, length-map}
+use lib.ListN.{length, getD, take, drop, length-append, length-drop}
 use lib.Seq.{drop-drop, take-at, length-take-le, drop-cons}
 use borrow.Author.Tests.{leb-true}
 use Rattle.standard.specs.Tag.{Tag, same, label}
 use Rattle.standard.specs.Grammar.{Kind, aScript, aRegion, aVariant, aNone, kindOf, isLanguage, isVariant, isSingleton, Groups, grouped, flat, only}
 use Rattle.standard.specs.Identifier.{Identifier, part, parts}
-use Rattle.standard.specs.Reading.{optional, split, Fault, firstOf, noBytes, tooLong, unclean, badTag, wrongSize, Stage, afterLanguage, afterScript, afterRoot, root, start, restFault, partFault, groupsFault, extensionFault, privateFault, isX, upTo, from, noLanguage, grammarFault, faultOf, find, afterFirst, identifierOf}
+use Rattle.standard.specs.Reading.{optional, split, noBytes, tooLong, unclean, badTag, wrongSize, root, start, partFault, isX, upTo, from, noLanguage, grammarFault, faultOf, find, afterFirst, identifierOf}
 use Rattle.standard.proofs.Bytes.{bool-cases}
 use Rattle.standard.proofs.Arranged.{firstOf-none}
 use Rattle.reader.specs.Cuts.{Cuts, cutsAfter, cutsOf}
@@ -21,11 +21,11 @@ use Rattle.subtag.specs.Bytes.{tidyByte}
 use Rattle.canonical.specs.Section.{tagsOf, led, Led, Plain}
 use Rattle.subtag.proofs.Walk.{label-fits}
 use Rattle.canonical.proofs.Walk.{tidied, section-bytes, Rest, split-rest}
-use Rattle.canonical.proofs.Pending.{led-append, length-led, grouped-all, map-take}
-use Rattle.canonical.proofs.Boundary.{Parted, parted, plain-parts}
+use Rattle.canonical.proofs.Pending.{grouped-all, map-take}
+use Rattle.canonical.proofs.Boundary.{parted, plain-parts}
 use Rattle.canonical.proofs.Print.{up-to}
 use Rattle.canonical.proofs.Again.{plain-read}
-use Rattle.canonical.proofs.Stages.{Others, Region, after-script, after-language, after-root, region-left}
+use Rattle.reader.proofs.Stages.{Others, Region, after-script, after-language, after-root, region-left}
 
 -- The length of a section.
 pub parts-led : (ts : List Tag) → parts ts ≡ length (led ts)

@@ -1,21 +1,20 @@
 -- Laws of delivery; and what canonicalising over tested aliases makes. Assumes nothing.
-use mathlib.Core.Path.{_≡_, refl, sym, ap, ap₂, _∙_}
-use mathlib.Core.Bool.{Bool, true, false, cond}
+use mathlib.Core.Path.{_≡_, refl, sym, ap, _∙_}
+use mathlib.Core.Bool.{true, false}
 use mathlib.Core.List.{List, [], _∷_, _++_}
 use mathlib.Core.Option.{Option, none, some}
 use Prim.Native.Nat.{ℕ, _+_, _≤_, _<_}
 use native.Mathlib.Omega.{arith}
-use lib.Dec.{leb}
 use lib.ListN.{length, take, drop}
 use lib.Seq.{sets, sets-eq}
 use borrow.Author.Tests.{le-leb, lt-leb}
 use types.Run.{OneOf, miss}
 use denote.Enum.Declared.{tagOf}
-use Rattle.standard.specs.Delivery.{Made, result, refusal as refusalMade, Given, given}
-use Rattle.standard.specs.Identifier.{Tables, Answer as StandardAnswer, done, refused, canonical}
+use Rattle.standard.specs.Delivery.{Made, result, refusal as refusalMade, given}
+use Rattle.standard.specs.Identifier.{Answer as StandardAnswer, done, refused, canonical}
 use Rattle.standard.specs.Reading.{Fault, Read, good, bad, read}
 use Rattle.standard.specs.Calls.{canonicalise}
-use Rattle.standard.specs.Table.{tablesOf, rowsFault, aliasShape, rows, TableFault, inTable, firstTable, check}
+use Rattle.standard.specs.Table.{tablesOf, TableFault, inTable, firstTable, check}
 use Rattle.standard.specs.Make.{made, operate, makeOf, make, afterCheck, canonicaliseMade}
 use Rattle.rows.specs.declared.Table.the-variants.{Aliases}
 use Rattle.rows.specs.Rows.{shapeOf}
@@ -30,7 +29,7 @@ use Rattle.canonical.specs.declared.form.Canon.{Canon}
 use Rattle.canonical.specs.declared.form.Canon.the-variants.{Formed, Empty, TooLong, BadByte, BadSize, Misplaced, Repeated, Unfinished, Overlong}
 use Rattle.table.specs.Hints.{Hinted}
 use Rattle.canonical.specs.Tested.{Tested, TestedWith}
-use Rattle.canonical.specs.Form.{Outcome, form, refusal, outcomeOf, formed, canonicalOf, outcome, FormFits}
+use Rattle.canonical.specs.Form.{Outcome, outcomeOf, formed, canonicalOf, outcome, FormFits}
 use Rattle.canonical.specs.Answer.{answerOf, refusedAnswer, refusedOf, refusedTable, madeOf}
 
 pub too-short : (b out : List ℕ) (steps : ℕ) (r : Answer) → r ≡ refusedAnswer 10 0 0 → length out < length b → answerOf r out ≡ given (result b steps) out

@@ -1,26 +1,24 @@
 -- The language part and the fields of `t`. Assumes nothing.
 use mathlib.Core.Path.{_≡_, refl, sym, ap, ap₂, subst, _∙_}
-use mathlib.Core.Bool.{Bool, true, false, cond, not, _&&_, _||_}
+use mathlib.Core.Bool.{Bool, true, false, _&&_}
 use mathlib.Core.List.{List, [], _∷_, _++_, map}
-use Prim.Native.Nat.{ℕ, zero, suc, _+_, _-_, _≤_, _<_}
+use Prim.Native.Nat.{ℕ, _+_, _-_, _≤_, _<_}
 use native.Mathlib.Omega.{arith}
-use lib.Dec.{leb}
 use lib.ListN.{length, take, drop, length-append, length-map, length-drop}
 use lib.Seq.{take-all, length-take-le}
-use borrow.Author.Tests.{le-leb, lt-leb}
+use borrow.Author.Tests.{lt-leb}
 use Rattle.standard.specs.Tag.{Tag, sortBy, itself, label}
 use Rattle.standard.specs.Grammar.{Groups, withTag, grouped, flat, only, others, isVariant, isField, arrangePart, arrangeFields}
 use Rattle.standard.specs.Reading.{split, afterFirst}
 use Rattle.subtag.specs.declared.Subtag.{Subtag}
-use Rattle.canonical.specs.declared.section.What.{What}
 use Rattle.canonical.specs.declared.section.What.the-variants.{Field, Variant}
 use Rattle.subtag.specs.Bytes.{tidyByte}
-use Rattle.subtag.specs.Subtags.{PlainTag, subtagOf}
-use Rattle.canonical.specs.Section.{tagsOf, led, Led, Plain, isHead, trimmed, sortedTags, sortedBytes, tagTest, placeOf, everyTag, PartOk, keyOrValue, FieldsOk}
+use Rattle.subtag.specs.Subtags.{subtagOf}
+use Rattle.canonical.specs.Section.{tagsOf, led, Led, Plain, isHead, sortedTags, sortedBytes, tagTest, placeOf, everyTag, PartOk, keyOrValue, FieldsOk}
 use Rattle.canonical.proofs.Picks.{Stepped, stepped}
-use Rattle.canonical.proofs.Walk.{Step, tags-end, section-bytes}
-use Rattle.canonical.proofs.Pending.{led-append, length-led, grouped-all, section-size}
-use Rattle.canonical.proofs.Boundary.{Parted, parted, plain-parts, sorted-ones, regrouped, map-same}
+use Rattle.canonical.proofs.Walk.{tags-end, section-bytes}
+use Rattle.canonical.proofs.Pending.{led-append, length-led, grouped-all}
+use Rattle.canonical.proofs.Boundary.{parted, plain-parts, sorted-ones, regrouped, map-same}
 use Rattle.canonical.proofs.Tests.{place-before, parted-at}
 use Rattle.canonical.proofs.Writes.{sorted-fits}
 

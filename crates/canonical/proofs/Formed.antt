@@ -1,30 +1,28 @@
 -- The canonical form, written part by part, is the printed one. Assumes nothing.
-use mathlib.Core.Path.{_≡_, refl, sym, ap, ap₂, _∙_, subst}
-use mathlib.Core.Bool.{Bool, true, false, _&&_}
+use mathlib.Core.Path.{_≡_, sym, ap, ap₂, _∙_}
+use mathlib.Core.Bool.{false}
 use mathlib.Core.List.{List, [], _∷_, _++_, map, append-assoc}
 use mathlib.Core.Logic.{⊎-elim}
 use mathlib.Core.Option.{none}
-use Prim.Native.Nat.{ℕ, suc, _+_, _*_, _-_, _≤_, _<_}
+use Prim.Native.Nat.{ℕ, _+_, _-_, _≤_}
 use native.Mathlib.Omega.{arith}
 use lib.ListN.{length, take, drop, length-append, length-drop, length-map}
-use lib.Seq.{sets, sets-eq, length-sets, take-at, drop-at, drop-drop}
-use Rattle.standard.specs.Tag.{Tag, itself, sortBy}
-use Rattle.standard.specs.Grammar.{every, aVariant, kindOf, isSingleton, Groups, grouped, flat, arrange}
-use Rattle.standard.specs.Identifier.{Identifier, Three, Tables, aliased, canonicalVariants, canonicalForm, part, parts, size}
+use lib.Seq.{sets, sets-eq, take-at, drop-at}
+use Rattle.reader.specs.declared.Parts.{Parts as ReaderParts}
+use Rattle.standard.specs.Tag.{Tag}
+use Rattle.standard.specs.Grammar.{isSingleton, grouped, flat, arrange}
+use Rattle.standard.specs.Identifier.{Identifier, Tables, canonicalVariants, canonicalForm, part, parts, size}
 use Rattle.standard.specs.Reading.{optional, split, identifierOf, faultOf, print, ofKind}
 use Rattle.standard.specs.Table.{printThree, isWord, isVariantTag, tablesOf, check}
-use Rattle.standard.proofs.Tags.{All, sort-all}
+use Rattle.standard.proofs.Tags.{All}
 use Rattle.standard.proofs.Bytes.{word}
 use Rattle.standard.proofs.Shapes.{Word}
 use Rattle.standard.proofs.Faults.{Variants}
-use Rattle.standard.proofs.Round.{Shaped, Printable}
-use Rattle.standard.proofs.Sound.{Raw}
 use Rattle.standard.proofs.Closed.{canon-printable}
 use Rattle.standard.proofs.Table.{shaped-tables}
 use Rattle.subtag.specs.Bytes.{tidyByte}
 use Rattle.subtag.proofs.Stores.{wrote-two, mapped}
-use Rattle.reader.specs.declared.Parts.{Parts as ReaderParts}
-use Rattle.reader.specs.Cuts.{Cuts, cutsOf}
+use Rattle.reader.specs.Cuts.{cutsOf}
 use Rattle.reader.specs.Parts.{partsOf}
 use Rattle.canonical.specs.declared.three.Ends.{Ends}
 use Rattle.canonical.specs.declared.form.Form.{Form}
@@ -36,9 +34,9 @@ use Rattle.canonical.proofs.Walk.{section-bytes}
 use Rattle.canonical.proofs.Print.{print-led, arranged}
 use Rattle.canonical.proofs.Again.{AllLow}
 use Rattle.canonical.proofs.Keyed.{rest-of}
-use Rattle.canonical.proofs.Cuts.{parts-led, part-led, Cut, cut-size, Parts, parts-at, accepted as accepted-read, Accepted}
+use Rattle.canonical.proofs.Cuts.{parts-led, part-led, cut-size, parts-at, accepted as accepted-read}
 use Rattle.canonical.proofs.Ready.{raw, Ready, ready}
-use Rattle.canonical.proofs.Front.{Reads, reads}
+use Rattle.canonical.proofs.Front.{reads}
 use Rattle.canonical.proofs.Words.{aliases-passed, three-led, language-size, script-size, region-size, led-five, led-four}
 use Rattle.canonical.proofs.Cores.{canonical-shaped}
 use Rattle.canonical.proofs.Merged.{canonical-fits, low-word}

@@ -1,18 +1,18 @@
 -- The language, script and region of an accepted identifier, in its bytes. Assumes nothing.
-use mathlib.Core.Path.{_≡_, refl, sym, ap, ap₂, _∙_, subst}
-use mathlib.Core.Bool.{Bool, true, false, cond, _&&_}
+use mathlib.Core.Path.{_≡_, refl, sym, ap, ap₂, _∙_}
+use mathlib.Core.Bool.{true, false}
 use mathlib.Core.List.{List, [], _∷_, _++_, map}
 use mathlib.Core.Logic.{⊎-elim}
-use mathlib.Core.Option.{Option, none, some}
-use Prim.Native.Nat.{ℕ, zero, suc, _+_, _-_, _≤_, _<_}
-use native.Mathlib.Nat.{add-zero}
+use mathlib.Core.Option.{none}
+use Prim.Native.Nat.{ℕ, _+_, _-_, _≤_, _<_}
 use native.Mathlib.Omega.{arith}
-use lib.ListN.{length, take, drop, length-map, length-append}
+use lib.ListN.{length, take, length-map, length-append}
 use lib.Seq.{length-take-le, sets}
-use Rattle.standard.specs.Tag.{Tag, same, order, label}
-use Rattle.standard.specs.Grammar.{title, upper, aScript, aRegion, isLanguage, languageSize, sizeOf, isSingleton, grouped}
+use Rattle.reader.specs.declared.Parts.{Parts as ReaderParts}
+use Rattle.standard.specs.Tag.{Tag, same, label}
+use Rattle.standard.specs.Grammar.{title, upper, aScript, aRegion, isLanguage, languageSize, sizeOf}
 use Rattle.standard.specs.Identifier.{Identifier, Three, three, und, part}
-use Rattle.standard.specs.Reading.{optional, split, root, isX, upTo, find, coreOf, afterFirst, identifierOf, faultOf}
+use Rattle.standard.specs.Reading.{optional, split, root, find, coreOf, identifierOf, faultOf}
 use Rattle.standard.specs.Table.{languageKey}
 use Rattle.standard.proofs.Tags.{same-eq}
 use Rattle.standard.proofs.Bytes.{clash, bool-cases}
@@ -22,15 +22,12 @@ use Rattle.subtag.proofs.Walk.{le-or-lt}
 use Rattle.reader.specs.declared.Start.{Start}
 use Rattle.reader.specs.declared.Start.the-variants.{Language, Script, Root}
 use Rattle.reader.specs.Cuts.{Cuts, languageCut, cutsAfter, cutsOf}
-use Rattle.reader.specs.declared.Parts.{Parts as ReaderParts}
 use Rattle.reader.specs.Parts.{startOf, partsOf}
 use Rattle.canonical.specs.Section.{led, Plain}
 use Rattle.canonical.specs.Three.{between, afterSeparator, scriptStart, languageLookup}
-use Rattle.canonical.proofs.Stages.{Region}
 use Rattle.subtag.proofs.Raised.{raised-title, raised-upper}
-use Rattle.canonical.proofs.Keyed.{led-none}
 use Rattle.canonical.proofs.Places.{behind, at-once, start-first, start-later}
-use Rattle.canonical.proofs.Cuts.{part-led, Cut, cut-one, Accepted, accepted, firstTag, otherTags, Core, a-language, the-root, a-script, Parts, parts-at, first-is, before-is}
+use Rattle.canonical.proofs.Cuts.{Cut, cut-one, Accepted, accepted, firstTag, otherTags, Core, a-language, the-root, a-script, Parts, parts-at, first-is, before-is}
 
 -- a section of one subtag, or of none
 led-short : (t : Tag) → length (led (optional t)) ≡ 0 → t ≡ []

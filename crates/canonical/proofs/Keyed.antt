@@ -3,14 +3,14 @@ use mathlib.Core.Path.{_≡_, refl, sym, ap, ap₂, _∙_}
 use mathlib.Core.Bool.{Bool, true, false, cond}
 use mathlib.Core.List.{List, [], _∷_, _++_, append-nil}
 use mathlib.Core.Option.{Option, none, some}
-use Prim.Native.Nat.{ℕ, suc, _+_, _-_, _≤_, _<_}
+use Prim.Native.Nat.{ℕ, _+_, _-_, _≤_, _<_}
 use native.Mathlib.Omega.{arith}
 use lib.ListN.{length, take, drop, set, length-append, length-drop, length-set}
-use lib.Seq.{sets, sets-eq, length-sets, take-at, drop-at, take-all, length-take-le}
+use lib.Seq.{sets, sets-eq, length-sets, take-at, drop-at, take-all}
 use Rattle.standard.specs.Tag.{Tag}
 use Rattle.standard.specs.Reading.{optional}
 use Rattle.standard.specs.Table.{lookup, rows, located}
-use Rattle.table.specs.Lines.{valueOf, valueIf}
+use Rattle.table.specs.Lines.{valueOf}
 use Rattle.table.proofs.Lines.{lookup-located}
 use Rattle.subtag.proofs.Stores.{sets-append}
 use Rattle.canonical.specs.Section.{led}

@@ -1,13 +1,8 @@
 -- Sorting by subtags is sorting by their numbers. Assumes nothing.
-use mathlib.Core.Path.{_≡_, refl, sym, ap, ap₂, _∙_}
-use mathlib.Core.Bool.{Bool, true, false, cond}
-use mathlib.Core.List.{List, [], _∷_, _++_, map}
-use mathlib.Core.Option.{Option, none, some}
-use Prim.Native.Nat.{ℕ, zero, suc, _+_, _-_, _*_, _^_, _≤_, _<_, compare, Ordering, Ordering·lt, Ordering·eq, Ordering·gt, compare·zero-zero}
-use native.Mathlib.Nat.{mul-le-mul-right, suc-mul, one-le-pow}
-use native.Mathlib.Omega.{arith}
-use lib.ListN.{length}
-use Rattle.standard.specs.Tag.{Tag, andThen, order, insertBy, sortBy, label}
+use mathlib.Core.Path.{_≡_, refl, ap, ap₂, _∙_}
+use mathlib.Core.List.{List, [], _∷_, map}
+use Prim.Native.Nat.{ℕ, _-_, compare, Ordering, Ordering·lt, Ordering·eq, Ordering·gt}
+use Rattle.standard.specs.Tag.{Tag, order, insertBy, sortBy, label}
 use Rattle.subtag.specs.Subtags.{keyOf, PlainTag}
 use Rattle.standard.proofs.Tags.{All, sort-all}
 use Rattle.subtag.proofs.Keys.{order-key}

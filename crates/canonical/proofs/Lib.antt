@@ -12,7 +12,6 @@ pub mod Tests
 pub mod Fields
 pub mod Print
 pub mod Again
-pub mod Stages
 pub mod Cuts
 pub mod Ready
 pub mod Raised

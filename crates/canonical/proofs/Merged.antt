@@ -1,28 +1,28 @@
 -- The variants, replaced, are a section again, which is then sorted; and how long it can be. Assumes nothing.
-use mathlib.Core.Path.{_≡_, refl, sym, ap, ap₂, _∙_, subst}
-use mathlib.Core.Bool.{Bool, true, false, _&&_, _||_}
-use mathlib.Core.List.{List, [], _∷_, _++_, map, append-nil}
-use mathlib.Core.Logic.{_⊎_, inl, inr, ⊎-elim}
+use mathlib.Core.Path.{_≡_, refl, sym, ap, ap₂, _∙_}
+use mathlib.Core.Bool.{Bool, true, false}
+use mathlib.Core.List.{List, [], _∷_, _++_, map}
+use mathlib.Core.Logic.{_⊎_, inl, inr}
 use mathlib.Core.Option.{Option, none, some}
-use Prim.Native.Nat.{ℕ, suc, _+_, _*_, _≤_, _<_}
+use Prim.Native.Nat.{ℕ, _+_, _*_, _≤_}
 use native.Mathlib.Omega.{arith}
 use lib.ListN.{length, take, length-append}
 use lib.Seq.{sets}
 use Rattle.standard.specs.Tag.{Tag, replace, sortBy, itself}
-use Rattle.standard.specs.Grammar.{separator, lowerByte, every, Size, empty, one, two, three, four, several, long, sizeOf, Kind, aScript, aRegion, aVariant, aNone, kind, kindOf}
+use Rattle.standard.specs.Grammar.{every, Size, empty, one, two, three, four, several, long, sizeOf, aVariant, kind, kindOf}
 use Rattle.standard.specs.Identifier.{Tables, canonicalVariants}
 use Rattle.standard.specs.Reading.{optional, ofKind}
-use Rattle.standard.specs.Table.{lookup, rows, variantKey, isWord, isVariantTag, tablesOf, check}
-use Rattle.standard.proofs.Bytes.{clash, and-true, word, word-stands}
+use Rattle.standard.specs.Table.{variantKey, isWord, isVariantTag, tablesOf, check}
+use Rattle.standard.proofs.Bytes.{and-true, word, word-stands}
 use Rattle.standard.proofs.Shapes.{Word}
 use Rattle.standard.proofs.Sound.{ofKind-eq}
 use Rattle.standard.proofs.Table.{shaped-tables}
-use Rattle.subtag.specs.Subtags.{PlainBytes, PlainTag}
+use Rattle.subtag.specs.Subtags.{PlainTag}
 use Rattle.subtag.proofs.Keys.{word-plain}
-use Rattle.canonical.specs.Section.{tagsOf, led, Led, Plain, sortedTags, sortedBytes}
+use Rattle.canonical.specs.Section.{tagsOf, led, Led, Plain, sortedBytes}
 use Rattle.canonical.specs.Alias.{aliasedPart}
 use Rattle.canonical.specs.Variants.{resolved, EachVariant}
-use Rattle.canonical.proofs.Pending.{led-append, length-led, section-size}
+use Rattle.canonical.proofs.Pending.{led-append, section-size}
 use Rattle.canonical.proofs.Boundary.{sorted-ones}
 use Rattle.canonical.proofs.Writes.{sorted-fits}
 use Rattle.canonical.proofs.Again.{Low, AllLow, led-begins, tags-led}

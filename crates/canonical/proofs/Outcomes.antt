@@ -3,26 +3,26 @@ use mathlib.Core.Path.{_≡_, refl, sym, ap, ap₂, _∙_}
 use mathlib.Core.Bool.{Bool, true, false, cond}
 use mathlib.Core.List.{List, [], _∷_}
 use mathlib.Core.Option.{Option, none, some}
-use Prim.Native.Nat.{ℕ, _+_, _≤_, _<_}
+use Prim.Native.Nat.{ℕ, _≤_, _<_}
 use native.Mathlib.Omega.{arith}
 use lib.Dec.{leb}
-use lib.ListN.{length, take}
+use lib.ListN.{length}
 use lib.Seq.{sets}
 use borrow.Author.Tests.{le-leb, lt-leb}
 use types.Run.{OneOf, miss}
 use denote.Enum.Declared.{tagOf}
-use Rattle.standard.specs.Identifier.{Identifier, Tables, bounded, done, refused, canonical, canonicalForm, size}
-use Rattle.standard.specs.Reading.{Fault, faultOf, split, identifierOf, print, Read, good, bad, readAs, read}
+use Rattle.reader.specs.declared.Parts.{Parts as ReaderParts}
+use Rattle.standard.specs.Identifier.{Identifier, Tables, bounded, done, refused, canonical, size}
+use Rattle.standard.specs.Reading.{Fault, faultOf, split, identifierOf, print, readAs, read}
 use Rattle.standard.specs.Table.{tablesOf}
 use Rattle.reader.proofs.Reading.{the-type}
-use Rattle.reader.specs.declared.Parts.{Parts as ReaderParts}
 use Rattle.reader.specs.declared.Reading.{Reading}
 use Rattle.reader.specs.declared.Reading.the-variants.{Read as WasRead, Empty, TooLong, BadByte, BadSize, Misplaced, Repeated, Unfinished}
-use Rattle.reader.specs.Parts.{partsOf, Outcome as ReaderOutcome, parts, refused as unread, outcomeOf as readerOutcomeOf, outcomeAs, outcome as readerOutcome}
+use Rattle.reader.specs.Parts.{partsOf, parts, refused as unread, outcomeOf as readerOutcomeOf, outcomeAs, outcome as readerOutcome}
 use Rattle.canonical.specs.declared.form.Form.{Form}
 use Rattle.canonical.specs.declared.form.Canon.{Canon}
 use Rattle.canonical.specs.declared.form.Canon.the-variants.{Formed, Overlong}
-use Rattle.canonical.specs.Form.{formOf, Outcome, form, refusal, outcomeOf, formed, canonicalOf, outcome, accepted, unreadOf, FormFits}
+use Rattle.canonical.specs.Form.{formOf, form, refusal, outcomeOf, formed, canonicalOf, outcome, accepted, unreadOf, FormFits}
 use Rattle.canonical.proofs.Keyed.{front-in}
 
 -- a refusal of reading

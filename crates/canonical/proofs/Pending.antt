@@ -11,14 +11,14 @@ use lib.ListN.{length, take, drop, length-append, length-drop, length-map}
 use lib.Seq.{take-at}
 use borrow.Author.Tests.{lt-ltb}
 use Rattle.standard.specs.Tag.{Tag, sortBy, label}
-use Rattle.standard.specs.Grammar.{Groups, withTag, grouped, flat}
+use Rattle.standard.specs.Grammar.{withTag, grouped, flat}
 use Rattle.standard.specs.Reading.{split}
 use Rattle.canonical.specs.declared.sorted.Head.{Head}
 use Rattle.subtag.specs.Bytes.{tidyByte}
 use Rattle.subtag.specs.Subtags.{keyOf, subtagOf, PlainTag}
 use Rattle.canonical.specs.Section.{tagsOf, led, Led, Plain, Each, isHead, betterOf, noHead, pickFrom, endFrom}
 use Rattle.standard.proofs.Tags.{All}
-use Rattle.canonical.proofs.Walk.{Step, step, tags-end, section-bytes}
+use Rattle.canonical.proofs.Walk.{Step, step, section-bytes}
 use Rattle.canonical.proofs.Selection.{sortN, above, above-all, lesser, least, lesser-assoc, Over, sort-over, chosen, chosen-none}
 use Rattle.canonical.proofs.Keys.{number, Labelled, sort-number, sort-map}
 use Rattle.subtag.proofs.Keys.{key-above, key-below}

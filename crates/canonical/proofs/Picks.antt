@@ -1,12 +1,11 @@
 -- Laws of one step of the search for a head and for the end of a group. Assumes nothing.
-use mathlib.Core.Path.{_≡_, refl, sym, ap, ap₂, _∙_}
-use mathlib.Core.Bool.{Bool, true, false, cond}
-use mathlib.Core.List.{List, [], _∷_}
+use mathlib.Core.Path.{_≡_, sym, ap, ap₂, _∙_}
+use mathlib.Core.List.{List}
 use Prim.Native.Nat.{ℕ, _+_, _-_, _≤_, _<_}
 use native.Mathlib.Omega.{arith}
 use lib.ListN.{length, take, drop}
 use borrow.Author.Tests.{le-leb, lt-leb}
-use Rattle.standard.specs.Tag.{Tag, label}
+use Rattle.standard.specs.Tag.{label}
 use Rattle.standard.specs.Reading.{split}
 use Rattle.subtag.specs.declared.Subtag.{Subtag}
 use Rattle.canonical.specs.declared.sorted.Head.{Head}

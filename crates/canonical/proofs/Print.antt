@@ -1,12 +1,11 @@
 -- The printed identifier is its language and its sections; what parts the sections of an input. Assumes nothing.
 use mathlib.Core.Path.{_≡_, refl, sym, ap, ap₂, _∙_}
-use mathlib.Core.Bool.{Bool, true, false, cond}
-use mathlib.Core.List.{List, [], _∷_, _++_, map, append-nil, append-assoc}
-use Prim.Native.Nat.{ℕ, suc, _+_, _≤_, _<_}
+use mathlib.Core.Bool.{Bool, true, false}
+use mathlib.Core.List.{List, [], _∷_, _++_, append-nil, append-assoc}
+use Prim.Native.Nat.{ℕ, _+_}
 use native.Mathlib.Omega.{arith}
-use lib.Dec.{leb}
 use lib.ListN.{length}
-use borrow.Author.Tests.{lt-leb, le-leb}
+use borrow.Author.Tests.{lt-leb}
 use Rattle.standard.specs.Tag.{Tag}
 use Rattle.standard.specs.Grammar.{oneSize, sizeOf, isSingleton, Groups, withTag, grouped, flat, arrange}
 use Rattle.standard.specs.Identifier.{Identifier}

@@ -1,24 +1,23 @@
 -- The extensions of an accepted identifier are such that they can be written. Assumes nothing.
-use mathlib.Core.Path.{_≡_, refl, sym, ap, ap₂, _∙_, subst}
+use mathlib.Core.Path.{_≡_, refl, sym, ap, _∙_, subst}
 use mathlib.Core.Bool.{Bool, true, false, not, _&&_, _||_}
-use mathlib.Core.List.{List, [], _∷_, _++_, append-assoc, cons≢nil}
-use mathlib.Core.Logic.{_⊎_, inl, inr}
+use mathlib.Core.List.{List, [], _∷_, _++_, append-assoc}
 use mathlib.Core.Option.{none}
-use Prim.Native.Nat.{ℕ, suc, _+_, _≤_, _<_}
+use Prim.Native.Nat.{ℕ, _+_, _<_}
 use native.Mathlib.Omega.{arith}
 use lib.ListN.{length}
-use Rattle.standard.specs.Tag.{Tag, same, order, label}
-use Rattle.standard.specs.Grammar.{oneSize, wrongLength, sizeOf, Kind, aScript, aRegion, aVariant, kindOf, variantKind, isVariant, isSingleton, isTwo, isField, uTag, tTag, Groups, grouped, flat, arrange}
+use Rattle.standard.specs.Tag.{Tag, same, order}
+use Rattle.standard.specs.Grammar.{oneSize, wrongLength, sizeOf, aScript, aRegion, aVariant, kindOf, variantKind, isVariant, isSingleton, isTwo, isField, uTag, tTag, Groups, grouped, flat}
 use Rattle.standard.specs.Identifier.{Identifier}
-use Rattle.standard.specs.Reading.{split, optional, afterFirst, wrongSize, wrongValue, alone, faultOf, identifierOf, good, readAs, read}
+use Rattle.standard.specs.Reading.{split, optional, afterFirst, wrongSize, wrongValue, alone, faultOf, identifierOf, readAs, read}
 use Rattle.standard.proofs.Tags.{All, same-eq}
 use Rattle.standard.proofs.Groups.{Lacks, Has, Headed, grouped-before, regroup, all-append}
 use Rattle.standard.proofs.Bytes.{clash}
-use Rattle.standard.proofs.Faults.{Maybe, Rest, Variants, kind-variant}
+use Rattle.standard.proofs.Faults.{Rest, Variants, kind-variant}
 use Rattle.standard.proofs.Round.{Extension, all-impl, all-flat, lacks-variant}
 use Rattle.standard.proofs.Arranged.{Part, Fields, Checked}
 use Rattle.standard.proofs.Sound.{Raw, read-raw}
-use Rattle.canonical.specs.Section.{tagsOf, Plain, Longer, Each, Arrangeable, PartOk, FieldsOk, isHead, keyOrValue, everyTag, arrangedTags}
+use Rattle.canonical.specs.Section.{Plain, Longer, Each, Arrangeable, PartOk, FieldsOk, isHead, keyOrValue, everyTag}
 use Rattle.canonical.proofs.Pending.{grouped-all}
 use Rattle.canonical.proofs.Boundary.{two-size}
 use Rattle.canonical.proofs.Print.{grouped-singleton}

@@ -1,10 +1,10 @@
 -- One turn of the loop that replaces the variants. Assumes nothing.
 use mathlib.Core.Path.{_≡_, refl, sym, ap, ap₂, _∙_, subst}
 use mathlib.Core.List.{List, [], _∷_, _++_, map}
-use Prim.Native.Nat.{ℕ, suc, _+_, _-_, _≤_, _<_}
+use Prim.Native.Nat.{ℕ, _+_, _-_, _≤_, _<_}
 use native.Mathlib.Omega.{arith}
-use lib.ListN.{length, take, drop, length-append, length-take, length-drop}
-use lib.Seq.{sets, length-sets, take-at, length-take-le, take-all}
+use lib.ListN.{length, take, drop, length-append}
+use lib.Seq.{sets, length-sets, take-at}
 use Rattle.standard.specs.Tag.{Tag, label, pick}
 use Rattle.standard.specs.Reading.{split, afterFirst}
 use Rattle.standard.specs.Table.{variantKey}
@@ -12,11 +12,10 @@ use Rattle.subtag.specs.declared.Subtag.{Subtag}
 use Rattle.subtag.specs.Bytes.{tidyByte, raised}
 use Rattle.subtag.specs.Subtags.{subtagOf, PlainTag}
 use Rattle.subtag.proofs.Stores.{sets-append}
-use Rattle.subtag.proofs.Walk.{judged-fits}
 use Rattle.canonical.specs.Section.{tagsOf, led, Led, Plain}
 use Rattle.canonical.specs.Alias.{aliasedPart}
 use Rattle.canonical.specs.Variants.{resolved}
-use Rattle.canonical.proofs.Walk.{Step, tidied, tags-end}
+use Rattle.canonical.proofs.Walk.{tidied, tags-end}
 use Rattle.canonical.proofs.Picks.{Stepped, stepped}
 use Rattle.canonical.proofs.Pending.{map-take}
 

@@ -1,24 +1,21 @@
 -- The first subtag of a kind parts a section. Assumes nothing.
-use mathlib.Core.Path.{_≡_, refl, sym, ap, ap₂, _∙_}
-use mathlib.Core.Bool.{Bool, true, false, cond, _&&_, _||_}
-use mathlib.Core.List.{List, [], _∷_, _++_}
-use Prim.Native.Nat.{ℕ, zero, suc, _+_, _-_, _*_, _/_, _%_, _^_, _≤_, _<_, compare, Ordering, Ordering·lt, Ordering·eq, Ordering·gt}
+use mathlib.Core.Path.{_≡_, sym, ap, _∙_}
+use mathlib.Core.Bool.{Bool, true, false, cond}
+use mathlib.Core.List.{List, [], _∷_}
+use Prim.Native.Nat.{ℕ, _+_, _-_, _≤_}
 use native.Mathlib.Omega.{arith}
-use lib.Dec.{leb, eqb, isEq}
-use lib.ListN.{length, take, drop, length-append}
-use borrow.Author.Tests.{le-leb, lt-leb, eq-eqb, ne-eqb, eqb-true, leb-true}
-use Rattle.standard.specs.Tag.{Tag, andThen, order, same, label}
-use Rattle.standard.specs.Grammar.{small, digit, every, two, three, four, sizeOf, kind, kindOf, variantKind, isVariant, isField, startsWithDigit, xTag, Groups, withTag, grouped, flat}
-use Rattle.standard.specs.Reading.{split, isX}
+use lib.ListN.{length, drop, length-append}
+use Rattle.standard.specs.Tag.{Tag}
+use Rattle.standard.specs.Grammar.{variantKind, isVariant, withTag, grouped, flat}
 use Rattle.subtag.specs.declared.Subtag.{Subtag}
 use Rattle.canonical.specs.declared.section.What.{What}
 use Rattle.canonical.specs.declared.section.What.the-variants.{Field, Variant}
-use Rattle.subtag.specs.Subtags.{packed, keyOf, subtagOf, PlainBytes, PlainTag}
+use Rattle.subtag.specs.Subtags.{subtagOf}
 use Rattle.canonical.specs.Section.{tagsOf, led, Led, Plain, testOf, tagTest, placeOf}
 use Rattle.subtag.proofs.Shapes.{field-from, kind-from}
 use Rattle.canonical.proofs.Picks.{Stepped}
 use Rattle.canonical.proofs.Walk.{tags-end}
-use Rattle.canonical.proofs.Pending.{length-led, grouped-all}
+use Rattle.canonical.proofs.Pending.{grouped-all}
 use Rattle.canonical.proofs.Boundary.{Parted, parted}
 
 pub test : (what : What) (t : Tag) → testOf what (subtagOf t) ≡ tagTest what t

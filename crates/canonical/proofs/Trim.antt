@@ -1,25 +1,24 @@
 -- A group without a type that is exactly `true`; and what one turn of the writing loop does. Assumes nothing.
-use mathlib.Core.Path.{_≡_, refl, sym, ap, ap₂, _∙_}
+use mathlib.Core.Path.{_≡_, refl, sym, ap, _∙_}
 use mathlib.Core.Bool.{Bool, true, false, cond}
 use mathlib.Core.List.{List, [], _∷_, _++_, map}
-use Prim.Native.Nat.{ℕ, zero, suc, _+_, _-_, _≤_, _<_, Ordering, Ordering·lt, Ordering·eq, Ordering·gt}
+use Prim.Native.Nat.{ℕ, _+_, _-_, _≤_, _<_}
 use native.Mathlib.Omega.{arith}
-use lib.Dec.{leb, ltb, eqb, isEq}
-use lib.ListN.{length, take, drop, length-append, length-map}
-use lib.Seq.{sets, take-at}
+use lib.Dec.{eqb, isEq}
+use lib.ListN.{length, take, drop}
+use lib.Seq.{take-at}
 use borrow.Author.Tests.{lt-leb, le-leb, eq-eqb, ne-eqb}
-use Rattle.standard.specs.Tag.{Tag, order, same, insertBy, sortBy, label}
+use Rattle.standard.specs.Tag.{Tag, same, label}
 use Rattle.standard.specs.Grammar.{grouped, flat, dropTrue, trueTag}
 use Rattle.standard.specs.Reading.{split}
 use Rattle.subtag.specs.declared.Subtag.{Subtag}
 use Rattle.subtag.specs.Bytes.{tidyByte}
 use Rattle.subtag.specs.Subtags.{packed, keyOf, subtagOf, PlainBytes, PlainTag}
-use Rattle.canonical.specs.Section.{tagsOf, led, Led, Plain, isHead, endFrom, endWithout, trimmedEnd, trimmed, sortedTags, sortedBytes}
+use Rattle.canonical.specs.Section.{tagsOf, led, Led, Plain, isHead, endFrom, endWithout, trimmedEnd, trimmed}
 use Rattle.subtag.proofs.Walk.{judged}
-use Rattle.canonical.proofs.Walk.{Step, step, section-bytes}
-use Rattle.subtag.proofs.Stores.{sets-append}
+use Rattle.canonical.proofs.Walk.{step, section-bytes}
 use Rattle.subtag.proofs.Keys.{order-key}
-use Rattle.canonical.proofs.Pending.{led-append, length-led, cut, GroupAt, group-at, Ahead, ahead, head-tags, grouped-all, end-before, map-take, section-size}
+use Rattle.canonical.proofs.Pending.{led-append, length-led, cut, group-at, Ahead, ahead, head-tags, grouped-all, end-before, map-take}
 
 true-plain : PlainTag trueTag
 unfolding PlainTag PlainBytes

@@ -1,19 +1,16 @@
 -- Laws of the walk over a section. Assumes nothing.
-use mathlib.Core.Path.{_≡_, refl, sym, ap, ap₂, _∙_}
-use mathlib.Core.Bool.{Bool, true, false, cond}
+use mathlib.Core.Path.{_≡_, refl, sym, ap, _∙_}
+use mathlib.Core.Bool.{Bool, true, false}
 use mathlib.Core.List.{List, [], _∷_, _++_, map}
-use Prim.Native.Nat.{ℕ, zero, suc, _+_, _-_, _*_, _/_, _^_, _≤_, _<_}
-use native.Mathlib.Nat.{mul-le-mul-right, zero-mul}
+use Prim.Native.Nat.{ℕ, _+_, _-_, _≤_, _<_}
 use native.Mathlib.Numerals.{add-one}
 use native.Mathlib.Omega.{arith}
-use lib.ListN.{length, getD, take, drop, drop-of-length-le, length-drop, length-append}
-use lib.Seq.{drop-cons, drop-drop, take-all}
-use Rattle.standard.specs.Tag.{Tag, onto, label}
+use lib.ListN.{length, getD, drop, drop-of-length-le, length-drop}
+use lib.Seq.{drop-cons, drop-drop}
+use Rattle.standard.specs.Tag.{Tag, label}
 use Rattle.standard.specs.Grammar.{separator, lowerByte}
 use Rattle.standard.specs.Reading.{split, afterFirst}
-use Rattle.subtag.specs.declared.Subtag.{Subtag}
 use Rattle.subtag.specs.Bytes.{tidyByte}
-use Rattle.subtag.specs.Subtags.{packed, keyOf, subtagOf}
 use Rattle.canonical.specs.Section.{tagsOf, led, Led}
 use Rattle.subtag.proofs.Walk as walk
 use Rattle.subtag.proofs.Walk.{split-cons, label-byte, label-sep, label-fits, after-byte, after-sep}

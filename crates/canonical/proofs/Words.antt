@@ -1,20 +1,20 @@
 -- The value of a language's alias: language, perhaps script, perhaps region, and where they end. Assumes nothing.
-use mathlib.Core.Path.{_≡_, refl, sym, ap, ap₂, _∙_, subst}
-use mathlib.Core.Bool.{Bool, true, false, cond, _&&_}
-use mathlib.Core.List.{List, [], _∷_, _++_, map, append-nil, append-assoc}
+use mathlib.Core.Path.{_≡_, refl, sym, ap, _∙_}
+use mathlib.Core.Bool.{Bool, true, false}
+use mathlib.Core.List.{List, [], _∷_, _++_, append-nil, append-assoc}
 use mathlib.Core.Logic.{_⊎_, inl, inr, ⊎-elim}
 use mathlib.Core.Option.{Option, none, some}
-use Prim.Native.Nat.{ℕ, zero, suc, _+_, _-_, _≤_, _<_}
+use Prim.Native.Nat.{ℕ, suc, _+_, _-_, _≤_}
 use native.Mathlib.Omega.{arith}
 use lib.Dec.{leb, eqb}
 use lib.ListN.{length, take, drop, length-append, length-map}
 use lib.Seq.{drop-drop, take-at, drop-at}
 use borrow.Author.Tests.{leb-true, ne-eqb}
-use Rattle.standard.specs.Tag.{Tag, pick, replace}
-use Rattle.standard.specs.Grammar.{upperByte, small, every, title, upper, Size, empty, one, two, three as threeSize, four, several, long, sizeOf, languageSize, isLanguage, Kind, aScript, aRegion, kind, kindOf}
-use Rattle.standard.specs.Identifier.{Three, three, Tables, languageAlias, aliased}
+use Rattle.standard.specs.Tag.{Tag, pick}
+use Rattle.standard.specs.Grammar.{upperByte, small, every, title, upper, Size, empty, one, two, three as threeSize, four, several, long, sizeOf, languageSize, isLanguage, aScript, aRegion, kind, kindOf}
+use Rattle.standard.specs.Identifier.{Three, three, languageAlias}
 use Rattle.standard.specs.Reading.{optional, joined}
-use Rattle.standard.specs.Table.{pieces, lookup, rows, isThree, parse, printThree, languageKey, scriptKey, regionKey, parsed, tablesOf, rowsFault, clashFault, tooBig, inTable, firstTable, check}
+use Rattle.standard.specs.Table.{pieces, lookup, rows, parse, printThree, languageKey, parsed, tablesOf, rowsFault, clashFault, tooBig, inTable, firstTable, check}
 use Rattle.standard.proofs.Bytes.{clash, and-true}
 use Rattle.standard.proofs.Faults.{Maybe}
 use Rattle.standard.proofs.Round.{Shown, Shaped}
@@ -23,7 +23,7 @@ use Rattle.standard.proofs.Table.{Passed, passed, three-shaped, three-printed, 
 use Rattle.subtag.proofs.Walk.{le-or-lt}
 use Rattle.table.specs.Lines.{endOf}
 use Rattle.canonical.specs.Section.{led}
-use Rattle.canonical.specs.Alias.{replacedBy, aliasedPart}
+use Rattle.canonical.specs.Alias.{replacedBy}
 use Rattle.canonical.specs.Three.{between, afterSeparator, scriptEnd}
 use Rattle.canonical.proofs.Pending.{led-append}
 use Rattle.canonical.proofs.Print.{joined-led}

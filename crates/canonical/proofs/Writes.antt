@@ -1,8 +1,8 @@
 -- What one turn of the writing loop does, and that the result is no longer than the section. Assumes nothing.
 use mathlib.Core.Path.{_≡_, refl, sym, ap, ap₂, _∙_}
-use mathlib.Core.Bool.{Bool, true, false, cond}
+use mathlib.Core.Bool.{Bool, true, false}
 use mathlib.Core.List.{List, [], _∷_, _++_, map}
-use Prim.Native.Nat.{ℕ, zero, suc, _+_, _-_, _≤_, _<_, Ordering, Ordering·lt, Ordering·eq, Ordering·gt}
+use Prim.Native.Nat.{ℕ, _+_, _-_, _≤_, _<_, Ordering, Ordering·lt, Ordering·eq, Ordering·gt}
 use native.Mathlib.Omega.{arith}
 use lib.ListN.{length, take, drop, length-append, length-map}
 use lib.Seq.{sets, length-sets}
@@ -10,10 +10,9 @@ use Rattle.standard.specs.Tag.{Tag, order, same, insertBy, sortBy, label}
 use Rattle.standard.specs.Grammar.{grouped, flat, dropTrue, trueTag}
 use Rattle.canonical.specs.declared.sorted.Head.{Head}
 use Rattle.subtag.specs.Bytes.{tidyByte}
-use Rattle.subtag.specs.Subtags.{PlainTag}
 use Rattle.canonical.specs.Section.{tagsOf, led, Led, Plain, isHead, noHead, pickFrom, endFrom, trimmedEnd, trimmed, sortedTags, sortedBytes}
 use Rattle.subtag.proofs.Stores.{sets-append}
-use Rattle.canonical.proofs.Pending.{led-append, length-led, cut, grouped-all, section-size, pending, pending-start, pending-next, pending-none, Found, Ahead, ahead, GroupAt, group-at}
+use Rattle.canonical.proofs.Pending.{led-append, cut, grouped-all, section-size, pending, pending-start, pending-next, pending-none, Found, Ahead, ahead, GroupAt, group-at}
 use Rattle.canonical.proofs.Trim.{Trimmed, trim-at}
 
 abbrev pub size : List Tag → ℕ

@@ -52,5 +52,6 @@ pub fn write_variants(s: &[u8], aliases: &[u8], hints: &[u16], out: &mut [u8], a
     }
     let mut scratch = buffer();
     let m = resolve_variants(s, aliases, hints, &mut scratch);
-    write_sorted(&scratch[..m], 8, false, out, at)
+    let resolved = &scratch[..m];
+    write_sorted(resolved, 8, false, out, at)
 }

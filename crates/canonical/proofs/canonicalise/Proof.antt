@@ -1,18 +1,12 @@
 -- `canonical::canonicalise` meets its contract. Assumes nothing.
-use mathlib.Core.Path.{_≡_, sym, ap, _∙_}
-use Rattle.standard.specs.Calls.{canonicalise as canonicalising}
+use mathlib.Core.Path.{sym, ap, _∙_}
 use Rattle.standard.specs.Delivery.{Made, given}
-use Rattle.standard.specs.Make.{make, canonicaliseMade}
+use Rattle.standard.specs.Make.{canonicaliseMade}
 use Rattle.table.proofs.Hinting.{hinted-empty}
 use Rattle.canonical.proofs.Delivers as delivers
 use borrow.Author.Needs.{needs}
 use Rattle.canonical.proofs.canonicalise.Statement.{statement}
 use Rattle.canonical.proofs.canonicalise.Tie as tie
-use Rattle.canonical.proofs.canonicalise.Reads as reads
-use Rattle.canonical.proofs.canonicalise.Lts as lts
-use Rattle.canonical.proofs.canonicalise_tested.Reads as canonicalise-tested-reads
-use Rattle.canonical.proofs.delivery.refused_table.Reads as refused-table-reads
-use Rattle.verdict.proofs.check_aliases.Reads as check-aliases-reads
 
 check-aliases-requires : tie.Need-check-aliases-requires
 check-aliases-requires c κs = search needs

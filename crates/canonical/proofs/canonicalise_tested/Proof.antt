@@ -1,6 +1,6 @@
 -- `canonical::canonicalise_tested` meets its contract. Assumes nothing.
 use native.Mathlib.Omega.{arith}
-use mathlib.Core.Path.{_≡_, sym}
+use mathlib.Core.Path.{sym}
 use Prim.Native.Nat.{_≤_}
 use lib.ListN.{length}
 use lib.Seq.{length-take-le}
@@ -9,12 +9,6 @@ use Rattle.canonical.proofs.Delivers as delivers
 use borrow.Author.Needs.{needs}
 use Rattle.canonical.proofs.canonicalise_tested.Statement.{statement}
 use Rattle.canonical.proofs.canonicalise_tested.Tie as tie
-use Rattle.canonical.proofs.canonicalise_tested.Reads as reads
-use Rattle.canonical.proofs.canonicalise_tested.Lts as lts
-use Rattle.canonical.proofs.buffer.buffer.Reads as buffer-reads
-use Rattle.canonical.proofs.delivery.deliver.Reads as deliver-reads
-use Rattle.canonical.proofs.delivery.refused.Reads as refused-reads
-use Rattle.canonical.proofs.form.canonical_form.Reads as canonical-form-reads
 
 -- src/lib.rt:30:20
 buffer-requires : tie.Need-buffer-requires

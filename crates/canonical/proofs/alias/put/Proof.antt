@@ -1,16 +1,12 @@
 -- `canonical::alias::put` meets its contract. Assumes nothing.
-use borrow.Author.Needs.{needs}
 use native.Mathlib.Omega.{arith}
-use mathlib.Core.Path.{_≡_, refl, sym, ap, _∙_}
-use mathlib.Core.List.{map}
+use mathlib.Core.Path.{_≡_, refl, _∙_}
 use Prim.Native.Nat.{_+_, _-_, _≤_}
 use lib.ListN.{length, take, length-set}
 use lib.Seq.{sets}
 use Rattle.canonical.proofs.Raised as raised
 use Rattle.canonical.proofs.alias.put.Statement.{statement}
 use Rattle.canonical.proofs.alias.put.Tie as tie
-use Rattle.canonical.proofs.alias.put.Reads as reads
-use Rattle.canonical.proofs.alias.put.Lts as lts
 
 abbrev Inv-loop : tie.InvT-loop
 Inv-loop src out₀ at i₀ out i = (i ≤ length src) × (length out ≡ length out₀) × (out ≡ sets out₀ at (take i src))

@@ -2,7 +2,7 @@
 use native.Mathlib.Numerals.{add-one}
 use native.Mathlib.Omega.{arith}
 use mathlib.Core.Path.{_≡_, sym, ap, _∙_}
-use mathlib.Core.List.{List, _∷_}
+use mathlib.Core.List.{_∷_}
 use Prim.Native.Nat.{ℕ, _+_}
 use lib.ListN.{length, set, length-set}
 use lib.Seq.{sets}
@@ -12,9 +12,6 @@ use Rattle.canonical.proofs.Keyed as keys
 use borrow.Author.Needs.{needs}
 use Rattle.canonical.proofs.alias.put_led.Statement.{statement}
 use Rattle.canonical.proofs.alias.put_led.Tie as tie
-use Rattle.canonical.proofs.alias.put_led.Reads as reads
-use Rattle.canonical.proofs.alias.put_led.Lts as lts
-use Rattle.canonical.proofs.alias.put.Reads as put-reads
 
 -- src/alias.rt:85:9
 returns : tie.Need-returns

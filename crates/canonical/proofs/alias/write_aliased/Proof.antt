@@ -1,8 +1,8 @@
 -- `canonical::alias::write_aliased` meets its contract. Assumes nothing.
 use native.Mathlib.Omega.{arith}
-use mathlib.Core.Path.{_≡_, refl, sym, ap, _∙_}
+use mathlib.Core.Path.{_≡_, sym, ap, _∙_}
 use mathlib.Core.List.{List, map}
-use Prim.Native.Nat.{ℕ, _+_, _≤_, _<_}
+use Prim.Native.Nat.{ℕ, _+_, _≤_}
 use lib.ListN.{length, take, drop, length-map}
 use lib.Seq.{sets}
 use Rattle.standard.specs.Tag.{Tag, pick}
@@ -16,11 +16,6 @@ use Rattle.canonical.proofs.Keyed as keys
 use borrow.Author.Needs.{needs}
 use Rattle.canonical.proofs.alias.write_aliased.Statement.{statement}
 use Rattle.canonical.proofs.alias.write_aliased.Tie as tie
-use Rattle.canonical.proofs.alias.write_aliased.Reads as reads
-use Rattle.canonical.proofs.alias.write_aliased.Lts as lts
-use Rattle.canonical.proofs.alias.put.Reads as put-reads
-use Rattle.canonical.proofs.alias.put_first.Reads as put-first-reads
-use Rattle.canonical.proofs.alias.write_replaced.Reads as write-replaced-reads
 
 -- src/alias.rt:119:23
 slice-aggregate-put : tie.Need-slice-aggregate-put

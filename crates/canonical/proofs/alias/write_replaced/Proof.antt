@@ -1,8 +1,8 @@
 -- `canonical::alias::write_replaced` meets its contract. Assumes nothing.
 use native.Mathlib.Omega.{arith}
-use mathlib.Core.Path.{_≡_, refl, sym, ap, _∙_}
+use mathlib.Core.Path.{_≡_, sym, ap, _∙_}
 use mathlib.Core.List.{List}
-use Prim.Native.Nat.{ℕ, _+_, _-_, _≤_}
+use Prim.Native.Nat.{ℕ, _+_, _-_}
 use lib.ListN.{length, take, drop}
 use lib.Seq.{sets}
 use Rattle.standard.specs.Reading.{optional}
@@ -13,10 +13,6 @@ use Rattle.canonical.proofs.Keyed as keys
 use borrow.Author.Needs.{needs}
 use Rattle.canonical.proofs.alias.write_replaced.Statement.{statement}
 use Rattle.canonical.proofs.alias.write_replaced.Tie as tie
-use Rattle.canonical.proofs.alias.write_replaced.Reads as reads
-use Rattle.canonical.proofs.alias.write_replaced.Lts as lts
-use Rattle.canonical.proofs.alias.put_led.Reads as put-led-reads
-use Rattle.table.proofs.hints.lookup_hinted.Reads as lookup-hinted-reads
 
 -- src/alias.rt:97:9
 lookup-hinted-requires : tie.Need-lookup-hinted-requires

@@ -3,10 +3,6 @@ use Rattle.canonical.proofs.Delivers as delivers
 use borrow.Author.Needs.{needs}
 use Rattle.canonical.proofs.delivery.deliver.Statement.{statement}
 use Rattle.canonical.proofs.delivery.deliver.Tie as tie
-use Rattle.canonical.proofs.delivery.deliver.Reads as reads
-use Rattle.canonical.proofs.delivery.deliver.Lts as lts
-use Rattle.canonical.proofs.alias.put.Reads as put-reads
-use Rattle.canonical.proofs.delivery.refuse.Reads as refuse-reads
 
 -- src/delivery.rt:53:9
 refuse-requires : tie.Need-refuse-requires

@@ -3,8 +3,6 @@ use mathlib.Core.Path.{refl}
 use Rattle.canonical.specs.Answer.{refusedAnswer}
 use Rattle.canonical.proofs.delivery.refuse.Statement.{statement}
 use Rattle.canonical.proofs.delivery.refuse.Tie as tie
-use Rattle.canonical.proofs.delivery.refuse.Reads as reads
-use Rattle.canonical.proofs.delivery.refuse.Lts as lts
 
 -- src/delivery.rt:18:1
 returns : tie.Need-returns

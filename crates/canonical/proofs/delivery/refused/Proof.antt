@@ -4,9 +4,6 @@ use Rattle.canonical.specs.Answer.{refusedOf}
 use borrow.Author.Needs.{needs}
 use Rattle.canonical.proofs.delivery.refused.Statement.{statement}
 use Rattle.canonical.proofs.delivery.refused.Tie as tie
-use Rattle.canonical.proofs.delivery.refused.Reads as reads
-use Rattle.canonical.proofs.delivery.refused.Lts as lts
-use Rattle.canonical.proofs.delivery.refuse.Reads as refuse-reads
 
 -- src/delivery.rt:35:29
 enum-told : tie.Need-enum-told

@@ -4,9 +4,6 @@ use Rattle.canonical.specs.Answer.{refusedTable}
 use borrow.Author.Needs.{needs}
 use Rattle.canonical.proofs.delivery.refused_table.Statement.{statement}
 use Rattle.canonical.proofs.delivery.refused_table.Tie as tie
-use Rattle.canonical.proofs.delivery.refused_table.Reads as reads
-use Rattle.canonical.proofs.delivery.refused_table.Lts as lts
-use Rattle.canonical.proofs.delivery.refuse.Reads as refuse-reads
 
 -- src/delivery.rt:53:26
 enum-told : tie.Need-enum-told

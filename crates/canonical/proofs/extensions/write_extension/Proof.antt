@@ -1,9 +1,9 @@
 -- `canonical::extensions::write_extension` meets its contract. Assumes nothing.
 use borrow.Author.Needs.{needs}
 use native.Mathlib.Omega.{arith}
-use mathlib.Core.Path.{_≡_, refl, sym, ap, _∙_}
+use mathlib.Core.Path.{refl, _∙_}
 use mathlib.Core.List.{List, map}
-use Prim.Native.Nat.{ℕ, _+_, _-_, _≤_, _<_}
+use Prim.Native.Nat.{ℕ, _-_}
 use lib.ListN.{length, take, drop, getD}
 use Rattle.standard.specs.Grammar.{lowerByte, arrangeKeywords, arrangeFields}
 use Rattle.subtag.specs.Bytes.{tidyByte}

@@ -1,10 +1,7 @@
 -- `canonical::extensions::write_extensions` meets its contract. Assumes nothing.
-use borrow.Author.Needs.{needs}
 use native.Mathlib.Omega.{arith}
-use mathlib.Core.Path.{_≡_, refl, sym, ap, _∙_}
 use mathlib.Core.List.{List}
-use Prim.Native.Nat.{ℕ, _+_, _-_, _≤_, _<_}
-use lib.ListN.{length, take, drop}
+use Prim.Native.Nat.{ℕ, _-_}
 use Rattle.canonical.proofs.Pending as sorted
 use Rattle.canonical.proofs.Arranging as extensions
 use Rattle.canonical.proofs.extensions.write_extensions.Statement.{statement}

@@ -1,18 +1,10 @@
 -- `canonical::form::canonical_form` meets its contract. Assumes nothing.
 use native.Mathlib.Omega.{arith}
-use mathlib.Core.Path.{_≡_, refl, sym, ap, _∙_}
-use mathlib.Core.List.{List}
-use lib.ListN.{length}
 use Rattle.canonical.proofs.Delivers as delivers
 use Rattle.canonical.proofs.Outcomes as outcomes
 use borrow.Author.Needs.{needs}
 use Rattle.canonical.proofs.form.canonical_form.Statement.{statement}
 use Rattle.canonical.proofs.form.canonical_form.Tie as tie
-use Rattle.canonical.proofs.form.canonical_form.Reads as reads
-use Rattle.canonical.proofs.form.canonical_form.Lts as lts
-use Rattle.canonical.proofs.form.unread.Reads as unread-reads
-use Rattle.canonical.proofs.form.write_form.Reads as write-form-reads
-use Rattle.reader.proofs.read_parts.Reads as read-parts-reads
 
 -- src/form.rt:117:9
 read-parts-requires : tie.Need-read-parts-requires

@@ -2,15 +2,12 @@
 use borrow.Author.Needs.{needs}
 use native.Mathlib.Omega.{arith}
 use mathlib.Core.Path.{_≡_}
-use Prim.Native.Nat.{ℕ, _+_, _-_, _≤_}
+use Prim.Native.Nat.{_+_, _-_, _≤_}
 use lib.ListN.{length, drop}
 use Rattle.canonical.specs.Form.{hyphens}
 use Rattle.canonical.proofs.Counts as counts
 use Rattle.canonical.proofs.form.count_subtags.Statement.{statement}
 use Rattle.canonical.proofs.form.count_subtags.Tie as tie
-use Rattle.canonical.proofs.form.count_subtags.Reads as reads
-use Rattle.canonical.proofs.form.count_subtags.Lts as lts
-use Rattle.canonical.proofs.form.hyphen.Reads as hyphen-reads
 
 abbrev Inv-loop : tie.InvT-loop
 Inv-loop s count₀ i₀ count i = (i ≤ length s) × (count ≤ i) × (count + hyphens (drop i s) ≡ hyphens s)

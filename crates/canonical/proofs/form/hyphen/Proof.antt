@@ -3,8 +3,6 @@ use native.Mathlib.Omega.{arith}
 use Rattle.canonical.proofs.Counts as counts
 use Rattle.canonical.proofs.form.hyphen.Statement.{statement}
 use Rattle.canonical.proofs.form.hyphen.Tie as tie
-use Rattle.canonical.proofs.form.hyphen.Reads as reads
-use Rattle.canonical.proofs.form.hyphen.Lts as lts
 
 -- src/form.rt:49:9
 returns : tie.Need-returns

@@ -4,8 +4,6 @@ use Rattle.canonical.specs.Form.{unreadOf}
 use borrow.Author.Needs.{needs}
 use Rattle.canonical.proofs.form.unread.Statement.{statement}
 use Rattle.canonical.proofs.form.unread.Tie as tie
-use Rattle.canonical.proofs.form.unread.Reads as reads
-use Rattle.canonical.proofs.form.unread.Lts as lts
 
 -- src/form.rt:101:29
 enum-told : tie.Need-enum-told

@@ -1,21 +1,13 @@
 -- `canonical::form::write_form` meets its contract. Assumes nothing.
 use native.Mathlib.Omega.{arith}
-use mathlib.Core.Path.{_≡_, refl, sym, ap, _∙_}
-use mathlib.Core.List.{List}
-use Prim.Native.Nat.{ℕ, _+_, _-_, _≤_}
+use mathlib.Core.Path.{_≡_}
+use Prim.Native.Nat.{_+_, _-_, _≤_}
 use lib.ListN.{length}
 use Rattle.standard.specs.Reading.{split, identifierOf}
 use Rattle.canonical.proofs.Formed as formed
 use borrow.Author.Needs.{needs}
 use Rattle.canonical.proofs.form.write_form.Statement.{statement}
 use Rattle.canonical.proofs.form.write_form.Tie as tie
-use Rattle.canonical.proofs.form.write_form.Reads as reads
-use Rattle.canonical.proofs.form.write_form.Lts as lts
-use Rattle.canonical.proofs.extensions.write_extensions.Reads as write-extensions-reads
-use Rattle.canonical.proofs.form.count_subtags.Reads as count-subtags-reads
-use Rattle.canonical.proofs.three.write_three.Reads as write-three-reads
-use Rattle.canonical.proofs.variants.write_variants.Reads as write-variants-reads
-use Rattle.subtag.proofs.put_tidy.Reads as put-tidy-reads
 
 -- src/form.rt:72:9
 write-three-requires : tie.Need-write-three-requires

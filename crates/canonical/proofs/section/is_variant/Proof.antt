@@ -8,9 +8,6 @@ use Rattle.subtag.specs.Kinds.{kindIs, kindFrom}
 use borrow.Author.Needs.{needs}
 use Rattle.canonical.proofs.section.is_variant.Statement.{statement}
 use Rattle.canonical.proofs.section.is_variant.Tie as tie
-use Rattle.canonical.proofs.section.is_variant.Reads as reads
-use Rattle.canonical.proofs.section.is_variant.Lts as lts
-use Rattle.subtag.proofs.kind_of.Reads as kind-of-reads
 
 -- src/section.rt:39:9
 kind-of-requires : tie.Need-kind-of-requires

@@ -1,14 +1,10 @@
 -- `canonical::section::is_what` meets its contract. Assumes nothing.
-use mathlib.Core.Path.{_≡_, sym, ap, _∙_}
+use mathlib.Core.Path.{sym, ap, _∙_}
 use Rattle.canonical.specs.declared.section.What.{What}
 use Rattle.canonical.specs.Section.{testOf}
 use borrow.Author.Needs.{needs}
 use Rattle.canonical.proofs.section.is_what.Statement.{statement}
 use Rattle.canonical.proofs.section.is_what.Tie as tie
-use Rattle.canonical.proofs.section.is_what.Reads as reads
-use Rattle.canonical.proofs.section.is_what.Lts as lts
-use Rattle.canonical.proofs.section.is_variant.Reads as is-variant-reads
-use Rattle.subtag.proofs.is_field.Reads as is-field-reads
 
 -- src/section.rt:52:24
 enum-told : tie.Need-enum-told

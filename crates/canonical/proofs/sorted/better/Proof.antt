@@ -1,5 +1,4 @@
 -- `canonical::sorted::better` meets its contract. Assumes nothing.
-use mathlib.Core.Path.{sym, _∙_}
 use borrow.Author.Needs.{needs}
 use borrow.Author.Tests.{le-leb, lt-leb, lt-ltb, le-ltb}
 use Rattle.canonical.specs.Section.{betterOf}

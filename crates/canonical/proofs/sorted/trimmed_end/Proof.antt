@@ -1,7 +1,7 @@
 -- `canonical::sorted::trimmed_end` meets its contract. Assumes nothing.
 use borrow.Author.Needs.{needs}
 use native.Mathlib.Omega.{arith}
-use mathlib.Core.Path.{_≡_, sym, ap, _∙_}
+use mathlib.Core.Path.{_∙_}
 use borrow.Author.Tests.{not-true, not-false}
 use Rattle.subtag.proofs.Walk as walk
 use Rattle.canonical.proofs.Trim as trim

@@ -1,11 +1,9 @@
 -- `canonical::sorted::write_by` meets its contract. The loop's invariant: what is pending, put at its place, gives the result.
 -- Assumes nothing.
-use borrow.Author.Needs.{needs}
 use native.Mathlib.Omega.{arith}
-use mathlib.Core.Path.{_≡_, refl, sym, ap, _∙_}
-use Prim.Native.Nat.{ℕ, _+_, _-_, _≤_, _<_}
+use mathlib.Core.Path.{_≡_}
+use Prim.Native.Nat.{_-_, _<_}
 use lib.ListN.{length}
-use lib.Seq.{length-sets}
 use Rattle.canonical.specs.Section.{tagsOf, noHead, pickFrom}
 use Rattle.canonical.proofs.Judged as judged
 use Rattle.canonical.proofs.Trim as trim

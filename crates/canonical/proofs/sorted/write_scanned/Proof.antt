@@ -1,18 +1,11 @@
 -- `canonical::sorted::write_scanned` meets its contract. The loop's invariant: what is pending, put at its place, gives the result.
 -- Assumes nothing.
-use borrow.Author.Needs.{needs}
 use native.Mathlib.Omega.{arith}
-use mathlib.Core.Path.{_≡_, refl, sym, ap, _∙_}
-use Prim.Native.Nat.{ℕ, _+_, _-_, _≤_, _<_}
-use lib.ListN.{length}
-use lib.Seq.{length-sets}
-use Rattle.canonical.proofs.Pending as sorted
+use Prim.Native.Nat.{_-_, _<_}
 use Rattle.canonical.proofs.Trim as trim
 use Rattle.canonical.proofs.Writes as writes
 use Rattle.canonical.proofs.sorted.write_scanned.Statement.{statement}
 use Rattle.canonical.proofs.sorted.write_scanned.Tie as tie
-use Rattle.canonical.proofs.sorted.write_scanned.Reads as reads
-use Rattle.canonical.proofs.sorted.write_scanned.Lts as lts
 
 abbrev Inv-loop : tie.InvT-loop
 Inv-loop s width trim out₀ at put₀ last₀ out put last = writes.Writing width trim s out₀ at out put last

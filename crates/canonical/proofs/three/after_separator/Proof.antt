@@ -5,8 +5,6 @@ use Rattle.canonical.proofs.Places as places
 use borrow.Author.Needs.{needs}
 use Rattle.canonical.proofs.three.after_separator.Statement.{statement}
 use Rattle.canonical.proofs.three.after_separator.Tie as tie
-use Rattle.canonical.proofs.three.after_separator.Reads as reads
-use Rattle.canonical.proofs.three.after_separator.Lts as lts
 
 -- src/three.rt:33:16
 add-result : tie.Need-add-result

@@ -1,18 +1,14 @@
 -- `canonical::three::put_language` meets its contract. Assumes nothing.
 use native.Mathlib.Omega.{arith}
-use mathlib.Core.Path.{_≡_, sym, ap, _∙_}
+use mathlib.Core.Path.{sym, ap, _∙_}
 use Prim.Native.Nat.{ℕ, _+_}
-use lib.ListN.{length, take, length-map}
+use lib.ListN.{take, length-map}
 use Rattle.subtag.specs.Bytes.{tidyByte}
 use lib.Seq.{length-take-le}
 use Rattle.canonical.proofs.Front as front
 use borrow.Author.Needs.{needs}
 use Rattle.canonical.proofs.three.put_language.Statement.{statement}
 use Rattle.canonical.proofs.three.put_language.Tie as tie
-use Rattle.canonical.proofs.three.put_language.Reads as reads
-use Rattle.canonical.proofs.three.put_language.Lts as lts
-use Rattle.canonical.proofs.alias.put.Reads as put-reads
-use Rattle.subtag.proofs.put_tidy.Reads as put-tidy-reads
 
 -- src/three.rt:84:17
 slice-aggregate-put : tie.Need-slice-aggregate-put

@@ -1,18 +1,12 @@
 -- `canonical::three::resolve_language` meets its contract. Assumes nothing.
 use native.Mathlib.Omega.{arith}
-use mathlib.Core.Path.{_≡_, refl, sym, ap, _∙_}
-use mathlib.Core.List.{List, _++_}
-use Prim.Native.Nat.{ℕ, _+_, _≤_}
-use lib.ListN.{length, take, length-append}
-use lib.Seq.{sets, length-sets, length-take-le}
+use mathlib.Core.Path.{ap, _∙_}
+use lib.ListN.{length}
+use lib.Seq.{sets}
 use Rattle.canonical.proofs.Cores as cores
 use borrow.Author.Needs.{needs}
 use Rattle.canonical.proofs.three.resolve_language.Statement.{statement}
 use Rattle.canonical.proofs.three.resolve_language.Tie as tie
-use Rattle.canonical.proofs.three.resolve_language.Reads as reads
-use Rattle.canonical.proofs.three.resolve_language.Lts as lts
-use Rattle.canonical.proofs.alias.put_replaced.Reads as put-replaced-reads
-use Rattle.canonical.proofs.three.put_language.Reads as put-language-reads
 
 -- src/three.rt:98:33
 slice-aggregate-put-language : tie.Need-slice-aggregate-put-language

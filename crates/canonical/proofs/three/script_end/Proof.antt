@@ -4,8 +4,6 @@ use Rattle.canonical.proofs.Places as places
 use borrow.Author.Needs.{needs}
 use Rattle.canonical.proofs.three.script_end.Statement.{statement}
 use Rattle.canonical.proofs.three.script_end.Tie as tie
-use Rattle.canonical.proofs.three.script_end.Reads as reads
-use Rattle.canonical.proofs.three.script_end.Lts as lts
 
 -- src/three.rt:53:8
 add-if1 : tie.Need-add-if1

@@ -5,9 +5,6 @@ use Rattle.canonical.proofs.Places as places
 use borrow.Author.Needs.{needs}
 use Rattle.canonical.proofs.three.script_start.Statement.{statement}
 use Rattle.canonical.proofs.three.script_start.Tie as tie
-use Rattle.canonical.proofs.three.script_start.Reads as reads
-use Rattle.canonical.proofs.three.script_start.Lts as lts
-use Rattle.canonical.proofs.three.after_separator.Reads as after-separator-reads
 
 -- src/three.rt:43:9
 returns : tie.Need-returns

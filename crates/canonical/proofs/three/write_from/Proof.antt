@@ -1,10 +1,10 @@
 -- `canonical::three::write_from` meets its contract. Assumes nothing.
 use native.Mathlib.Omega.{arith}
-use mathlib.Core.Path.{_≡_, refl, sym, ap, _∙_}
-use mathlib.Core.List.{List, _++_}
-use Prim.Native.Nat.{ℕ, _+_, _≤_}
-use lib.ListN.{length, take, length-append}
-use lib.Seq.{sets, length-sets, length-take-le}
+use mathlib.Core.Path.{refl, sym, ap}
+use mathlib.Core.List.{_++_}
+use Prim.Native.Nat.{_+_, _≤_}
+use lib.ListN.{length, take}
+use lib.Seq.{length-take-le}
 use Rattle.canonical.proofs.Cores as cores
 use Rattle.canonical.specs.Three.{scriptBytes, regionBytes}
 use Rattle.subtag.proofs.Stores as stores
@@ -12,13 +12,6 @@ use Rattle.table.proofs.Lines as lines
 use borrow.Author.Needs.{needs}
 use Rattle.canonical.proofs.three.write_from.Statement.{statement}
 use Rattle.canonical.proofs.three.write_from.Tie as tie
-use Rattle.canonical.proofs.three.write_from.Reads as reads
-use Rattle.canonical.proofs.three.write_from.Lts as lts
-use Rattle.canonical.proofs.alias.put.Reads as put-reads
-use Rattle.canonical.proofs.three.script_end.Reads as script-end-reads
-use Rattle.canonical.proofs.three.write_region.Reads as write-region-reads
-use Rattle.canonical.proofs.three.write_script.Reads as write-script-reads
-use Rattle.table.proofs.end_of.Reads as end-of-reads
 
 -- src/three.rt:108:9
 end-of-requires : tie.Need-end-of-requires

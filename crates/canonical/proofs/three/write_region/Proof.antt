@@ -1,18 +1,14 @@
 -- `canonical::three::write_region` meets its contract. Assumes nothing.
 use native.Mathlib.Omega.{arith}
-use mathlib.Core.Path.{_≡_, sym, ap, _∙_}
+use mathlib.Core.Path.{ap, _∙_}
 use mathlib.Core.List.{List}
-use Prim.Native.Nat.{ℕ, _+_, _-_, _≤_}
+use Prim.Native.Nat.{ℕ, _+_, _-_}
 use lib.ListN.{length}
 use lib.Seq.{sets}
 use Rattle.canonical.proofs.Places as places
 use borrow.Author.Needs.{needs}
 use Rattle.canonical.proofs.three.write_region.Statement.{statement}
 use Rattle.canonical.proofs.three.write_region.Tie as tie
-use Rattle.canonical.proofs.three.write_region.Reads as reads
-use Rattle.canonical.proofs.three.write_region.Lts as lts
-use Rattle.canonical.proofs.alias.write_aliased.Reads as write-aliased-reads
-use Rattle.canonical.proofs.three.after_separator.Reads as after-separator-reads
 
 -- src/three.rt:74:9
 after-separator-requires : tie.Need-after-separator-requires

@@ -1,19 +1,13 @@
 -- `canonical::three::write_three` meets its contract. Assumes nothing.
 use native.Mathlib.Omega.{arith}
-use mathlib.Core.Path.{_≡_, refl, sym, ap, _∙_}
-use mathlib.Core.List.{List, _++_}
-use Prim.Native.Nat.{ℕ, _+_, _≤_}
-use lib.ListN.{length, take, length-append}
-use lib.Seq.{sets, length-sets, length-take-le}
-use Rattle.canonical.proofs.Cores as cores
+use mathlib.Core.Path.{sym}
+use Prim.Native.Nat.{_≤_}
+use lib.ListN.{length}
+use lib.Seq.{length-take-le}
 use Rattle.canonical.proofs.Keyed as keys
 use borrow.Author.Needs.{needs}
 use Rattle.canonical.proofs.three.write_three.Statement.{statement}
 use Rattle.canonical.proofs.three.write_three.Tie as tie
-use Rattle.canonical.proofs.three.write_three.Reads as reads
-use Rattle.canonical.proofs.three.write_three.Lts as lts
-use Rattle.canonical.proofs.three.resolve_language.Reads as resolve-language-reads
-use Rattle.canonical.proofs.three.write_from.Reads as write-from-reads
 
 -- src/three.rt:129:46
 slice-aggregate-resolve-language : tie.Need-slice-aggregate-resolve-language

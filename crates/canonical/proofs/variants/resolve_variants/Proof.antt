@@ -2,17 +2,13 @@
 -- written, gives the whole. Assumes nothing.
 use borrow.Author.Needs.{needs}
 use native.Mathlib.Omega.{arith}
-use mathlib.Core.Path.{_≡_, refl, sym, ap, _∙_}
-use Prim.Native.Nat.{ℕ, _+_, _-_, _≤_}
+use mathlib.Core.Path.{_≡_, refl}
+use Prim.Native.Nat.{_+_, _-_, _≤_}
 use lib.ListN.{length}
 use Rattle.canonical.proofs.Places as places
 use Rattle.canonical.proofs.Resolves as resolves
 use Rattle.canonical.proofs.variants.resolve_variants.Statement.{statement}
 use Rattle.canonical.proofs.variants.resolve_variants.Tie as tie
-use Rattle.canonical.proofs.variants.resolve_variants.Reads as reads
-use Rattle.canonical.proofs.variants.resolve_variants.Lts as lts
-use Rattle.canonical.proofs.alias.write_aliased.Reads as write-aliased-reads
-use Rattle.subtag.proofs.judge.Reads as judge-reads
 
 abbrev Inv-loop : tie.InvT-loop
 Inv-loop s aliases hints out₀ n at₀ end₀ t10 out at end = (n ≡ length s) × resolves.Resolving aliases s out₀ at out end

@@ -1,44 +1,33 @@
 -- `canonical::variants::write_variants` meets its contract. Assumes nothing.
 use native.Mathlib.Omega.{arith}
-use mathlib.Core.Path.{_≡_, refl, sym, ap, _∙_}
-use mathlib.Core.List.{List, []}
+use mathlib.Core.Path.{sym, ap, _∙_}
+use mathlib.Core.List.{List}
 use Prim.Native.Nat.{ℕ, _+_, _≤_}
 use lib.ListN.{length, take}
 use lib.Seq.{sets, length-take-le}
-use Rattle.standard.specs.Table.{tablesOf}
 use Rattle.canonical.specs.Section.{tagsOf}
 use Rattle.canonical.proofs.Merged as merged
 use borrow.Author.Needs.{needs}
 use Rattle.canonical.proofs.variants.write_variants.Statement.{statement}
 use Rattle.canonical.proofs.variants.write_variants.Tie as tie
-use Rattle.canonical.proofs.variants.write_variants.Reads as reads
-use Rattle.canonical.proofs.variants.write_variants.Lts as lts
-use Rattle.canonical.proofs.sorted.write_sorted.Reads as write-sorted-reads
-use Rattle.canonical.proofs.variants.resolve_variants.Reads as resolve-variants-reads
-use Rattle.canonical.proofs.buffer.buffer.Reads as buffer-reads
 
--- src/variants.rt:48:9
 returns : tie.Need-returns
 returns c =
     let b = c .before .before .before .before .before in
     let e = merged.no-variants (b .args .aliases .now) (b .pre .3 .passes) (b .args .s .now) (c .if1 .taken) in
     (omega (arith, ap length e), ap (sets (b .args .out .now) (b .args .at)) (sym e))
 
--- src/variants.rt:50:23
 buffer-requires : tie.Need-buffer-requires
 buffer-requires c κs = search needs
 
--- src/variants.rt:51:42
 slice-aggregate-resolve-variants : tie.Need-slice-aggregate-resolve-variants
 slice-aggregate-resolve-variants c = search needs
 
--- src/variants.rt:51:9
 resolve-variants-requires : tie.Need-resolve-variants-requires
 resolve-variants-requires c κs =
     let b = c .before .before .before .before .before .before .before in
     (b .pre .0, b .pre .1, b .pre .3 .indexed, omega (arith, merged.resolved-fits (b .args .aliases .now) (b .pre .3 .passes) (b .args .s .now) (b .pre .0) (b .pre .2) (b .pre .4), c .before .buffer .ensures))
 
--- src/variants.rt:52:18
 fits : (c : tie.After-resolve-variants) → (c .resolve-variants .result ≤ length (c .resolve-variants .last .1 .1 .1 .0)) × (c .resolve-variants .result ≤ 459)
 fits c =
     let b = c .before .before .before .before .before .before .before .before in
@@ -55,24 +44,12 @@ part c =
 array-share-prefix-scratch : tie.Need-array-share-prefix-scratch
 array-share-prefix-scratch c = (fits (c .before)) .0
 
--- src/variants.rt:52:18
-slice-aggregate-write-sorted : tie.Need-slice-aggregate-write-sorted
-slice-aggregate-write-sorted c =
+slice-aggregate-resolved : tie.Need-slice-aggregate-resolved
+slice-aggregate-resolved c =
     let r = c .before .before in
     sym (length-take-le (r .resolve-variants .result) (r .resolve-variants .last .1 .1 .1 .0) ((fits r) .0))
 
--- src/variants.rt:52:5
-write-sorted-requires : tie.Need-write-sorted-requires
-write-sorted-requires c κs =
-    let r = c .before .before .before in
-    let n = length-take-le (r .resolve-variants .result) (r .resolve-variants .last .1 .1 .1 .0) ((fits r) .0) in
-    (omega (arith, (fits r) .1), omega (arith, (fits r) .1), (part r) .begins, (part r) .plain)
-
--- src/variants.rt:43:1
-same-length : tie.Need-same-length
-same-length c = search needs
-
--- src/variants.rt:43:1
+-- before what the call requires, so that another section is refused for what it would give
 returns-2 : tie.Need-returns-2
 returns-2 c =
     let w = c .before .before in
@@ -80,6 +57,15 @@ returns-2 c =
     let a = r .before .before .before .before .before .before .before .before .args in
     let e = (part r) .sorted in
     (w .write-sorted .ensures .0 ∙ ap (λ (x : List ℕ). a .at + length x) e, w .write-sorted .ensures .1 ∙ ap (sets (a .out .now) (a .at)) e)
+
+write-sorted-requires : tie.Need-write-sorted-requires
+write-sorted-requires c κs =
+    let r = c .before .before .before in
+    let n = length-take-le (r .resolve-variants .result) (r .resolve-variants .last .1 .1 .1 .0) ((fits r) .0) in
+    (omega (arith, (fits r) .1), omega (arith, (fits r) .1), (part r) .begins, (part r) .plain)
+
+same-length : tie.Need-same-length
+same-length c = search needs
 
 pub write-variants-spec : {M : Type 1} → statement M
 write-variants-spec =
@@ -90,7 +76,7 @@ write-variants-spec =
     slice-aggregate-resolve-variants
     resolve-variants-requires
     array-share-prefix-scratch
-    slice-aggregate-write-sorted
+    slice-aggregate-resolved
     write-sorted-requires
     same-length
     returns-2)
