@@ -31,7 +31,7 @@ fn print_rows(piece: &[u8], aliases: &[u8], likely: &[u8], out: &mut [u8]) -> bo
 
 // Reads to the end of the input. A proved loop has to end, so it counts its turns down from a number that no run uses up.
 fn answer_input(aliases: &[u8], likely: &[u8], block: &mut [u8], piece: &mut [u8], out: &mut [u8])
-    requires { ⌜ (length (now block) ≡ 98304) × (length (now piece) ≡ 98564) × (540 ≤ length (now out)) ⌝ }
+    requires { ⌜ (length (now block) ≡ 262144) × (length (now piece) ≡ 262404) × (540 ≤ length (now out)) ⌝ }
 {
     let mut kept: usize = 0;
     let mut turns = u64::MAX;
@@ -53,24 +53,24 @@ fn answer_input(aliases: &[u8], likely: &[u8], block: &mut [u8], piece: &mut [u8
 }
 
 // Room for a block of input. The larger it is, the less the test of the tables costs a line.
-fn block_buffer() -> [u8; 98304]
-    ensures { λ r. ⌜ 98304 ≡ length r ⌝ }
-{
-    [0; 98304]
-}
-
-// Room for a block of input behind an unfinished line.
-fn piece_buffer() -> [u8; 98564]
-    ensures { λ r. ⌜ 98564 ≡ length r ⌝ }
-{
-    [0; 98564]
-}
-
-// Room for the rows of a piece of usual lines: the row of `en` has 8 bytes, and the line 3 with its 0A.
-fn out_buffer() -> [u8; 262144]
+fn block_buffer() -> [u8; 262144]
     ensures { λ r. ⌜ 262144 ≡ length r ⌝ }
 {
     [0; 262144]
+}
+
+// Room for a block of input behind an unfinished line.
+fn piece_buffer() -> [u8; 262404]
+    ensures { λ r. ⌜ 262404 ≡ length r ⌝ }
+{
+    [0; 262404]
+}
+
+// Room for the rows of a piece of usual lines: `en` and its 0A are 3 bytes, its row is 8.
+fn out_buffer() -> [u8; 786432]
+    ensures { λ r. ⌜ 786432 ≡ length r ⌝ }
+{
+    [0; 786432]
 }
 
 fn run(aliases: &[u8], likely: &[u8]) {

@@ -8,7 +8,7 @@ use Rattle.keys.proofs.answer_input.Statement.{statement}
 use Rattle.keys.proofs.answer_input.Tie as tie
 
 abbrev Inv-loop : tie.InvT-loop
-Inv-loop aliases likely block₀ piece₀ out₀ kept₀ turns₀ block piece out kept turns = (kept ≤ 260) × (length block ≡ 98304) × (length piece ≡ 98564) × (length block₀ ≡ 98304) × (length piece₀ ≡ 98564) × (540 ≤ length out) × (length out ≡ length out₀)
+Inv-loop aliases likely block₀ piece₀ out₀ kept₀ turns₀ block piece out kept turns = (kept ≤ 260) × (length block ≡ 262144) × (length piece ≡ 262404) × (length block₀ ≡ 262144) × (length piece₀ ≡ 262404) × (540 ≤ length out) × (length out ≡ length out₀)
 
 abbrev μ-loop : tie.MeasureT-loop
 μ-loop aliases likely block₀ piece₀ out₀ kept₀ turns₀ block piece out kept turns = turns

@@ -1,0 +1,12 @@
+-- `keys::piece_buffer` meets its contract. Assumes nothing.
+use mathlib.Core.Path.{sym}
+use Prim.Native.Nat.{ℕ}
+use lib.ListN.{length-replicate}
+use Rattle.keys.proofs.piece_buffer.Statement.{statement}
+use Rattle.keys.proofs.piece_buffer.Tie as tie
+
+returns : tie.Need-returns
+returns c = sym (length-replicate {0} {A = ℕ} 262404 0)
+
+pub piece-buffer-spec : {M : Type 1} → statement M
+piece-buffer-spec = tie.close (tie.spec returns)
