@@ -11,6 +11,12 @@ uint64_t probe_read(const uint8_t *id, size_t id_len, uint32_t times);
 /* Tests the tables, then does the operation once, and so many times more. */
 uint64_t probe_repeat(uint8_t operation, const uint8_t *id, size_t id_len, const uint8_t *a, size_t a_len,
                       const uint8_t *other, size_t other_len, uint8_t *out, size_t out_len, uint32_t times);
+/* The same with hints beside the tables, made once. */
+uint64_t probe_repeat_hinted(uint8_t operation, const uint8_t *id, size_t id_len, const uint8_t *a, size_t a_len,
+                             const uint8_t *other, size_t other_len, uint8_t *out, size_t out_len, uint32_t times);
+
+static uint64_t (*repeat)(uint8_t, const uint8_t *, size_t, const uint8_t *, size_t, const uint8_t *, size_t, uint8_t *,
+                          size_t, uint32_t) = probe_repeat;
 
 enum { CANONICALISE, MAXIMISE, MINIMISE, CHAIN };
 
@@ -65,7 +71,7 @@ static double passes(uint8_t operation, const text *of, size_t count, uint32_t t
     for (int m = 0; m < MEASURES; m++) {
         double start = now();
         for (size_t k = 0; k < count; k++) {
-            sink += probe_repeat(operation, TEXT_OF(of[k]), FILE_OF(aliases), FILE_OF(*other), out, sizeof out, times);
+            sink += repeat(operation, TEXT_OF(of[k]), FILE_OF(aliases), FILE_OF(*other), out, sizeof out, times);
         }
         if (now() - start < least) least = now() - start;
     }
@@ -131,5 +137,9 @@ int main(int argc, char **argv) {
     say("maximise", all(MAXIMISE));
     say("minimise", all(MINIMISE));
     say("chain", all(CHAIN));
+    repeat = probe_repeat_hinted;
+    say("canonicalise, by hints", all(CANONICALISE));
+    say("maximise, by hints", all(MAXIMISE));
+    say("minimise, by hints", all(MINIMISE));
     return 0;
 }
