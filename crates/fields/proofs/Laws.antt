@@ -70,6 +70,18 @@ pub decimal-length : (n : ℕ) → length (decimal n) ≤ 20
 unfolding decimal
 decimal-length n = digits-length 20 n []
 
+-- a number of one digit
+digit-field : (n mark : ℕ) → n < 10 → field (decimal n) mark ≡ (48 + n) ∷ mark ∷ []
+unfolding decimal digitsOnto field
+digit-field n mark h =
+    let q : n / 10 ≡ 0 = omega arith in
+    let r : n % 10 ≡ n = omega arith in
+    rw (eq-eqb (n / 10) 0 q, r)
+
+pub digit-put : (out : Bytes) (at n mark d : ℕ) → n < 10 → d ≡ 48 + n
+    → (at + 2 ≡ at + length (field (decimal n) mark)) × (set (set out at d) (at + 1) mark ≡ sets out at (field (decimal n) mark)) × (at + 2 ≤ at + 2)
+digit-put out at n mark d h e = rw (digit-field n mark h, e, add-one) (refl, refl, omega arith)
+
 -- one byte more
 pub stored : (l o : List ℕ) (at : ℕ) (x : List ℕ) (i : ℕ) → o ≡ sets l at (take i x) → i < length x → set o (at + i) (getD x i 0) ≡ sets l at (take (i + 1) x)
 stored l o at x i e h =

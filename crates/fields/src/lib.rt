@@ -65,11 +65,24 @@ fn put_from(src: &[u8], from: usize, mark: u8, out: &mut [u8], at: usize) -> usi
     put(&src[from..], mark, out, at)
 }
 
+// The same of a number of one digit, with no room made for more.
+fn put_digit(n: usize, mark: u8, out: &mut [u8], at: usize) -> usize
+    requires { ⌜ (n < 10) × (at + 2 ≤ length (now out)) ⌝ }
+    ensures { λ r. ⌜ (r ≡ at + length (field (decimal n) mark)) × (now (out .exit) ≡ sets (now (out .entry)) at (field (decimal n) mark)) × (r ≤ at + 2) ⌝ }
+{
+    out[at] = digit(n);
+    out[at + 1] = mark;
+    at + 2
+}
+
 // The same of a number.
 pub fn put_number(n: usize, mark: u8, out: &mut [u8], at: usize) -> usize
     requires { ⌜ at + 21 ≤ length (now out) ⌝ }
     ensures { λ r. ⌜ (r ≡ at + length (field (decimal n) mark)) × (now (out .exit) ≡ sets (now (out .entry)) at (field (decimal n) mark)) × (r ≤ at + 21) ⌝ }
 {
+    if n < 10 {
+        return put_digit(n, mark, out, at);
+    }
     let d = digits_of(n);
     let start = d.start;
     let bytes = d.bytes;
