@@ -1,0 +1,4 @@
+pub mod Keys
+pub mod Sums
+pub mod Orders
+pub mod Triples

@@ -1,0 +1,1 @@
+// The monthly bill (document 02, T-01).
