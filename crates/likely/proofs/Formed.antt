@@ -111,7 +111,7 @@ module _ (A L : Bytes) (pass : check true false A L [] ≡ none) (hints : Bytes)
   abbrev c : Identifier
   c = w .form
 
-  canonicalises : canonical T (w .input) ≡ done c
+  pub canonicalises : canonical T (w .input) ≡ done c
   canonicalises = same-canonical A L [] [] [] (w .input) ∙ w .does
 
   printable : Printable c
@@ -138,20 +138,27 @@ module _ (A L : Bytes) (pass : check true false A L [] ≡ none) (hints : Bytes)
   pub ready : ReadyFor L hints (partsOf (c .core))
   unfolding mapParts
   ready = record {
-    first = subst (Ready L hints) (known-parts (c .core)) (record { indexed = indexed; short = shaped-short (withoutUnknown (c .core)) (strip-shaped T (shaped-tables A L [] ok) (c .core) (printable .core)) });
+    first = subst (Ready L hints) (known-parts (c .core)) (record { indexed = indexed; short = omega (arith, shaped-short (withoutUnknown (c .core)) (strip-shaped T (shaped-tables A L [] ok) (c .core) (printable .core))) });
     again = λ q e. again q (ap (fillParts L) (known-parts (c .core)) ∙ e);
   }
     where
       look : (o : Option Three) → maximalThree T (withoutUnknown (c .core)) ≡ o → (q : Parts) → mapParts o ≡ some q → Ready L hints q
       look none e q k = absurd (Option·none-ne-some q k)
-      look (some t) e q k = let z : partsOf t ≡ q = some-one k in subst (Ready L hints) z (record { indexed = indexed; short = shaped-short t (shaped t e) })
+      look (some t) e q k = let z : partsOf t ≡ q = some-one k in subst (Ready L hints) z (record { indexed = indexed; short = omega (arith, shaped-short t (shaped t e)) })
 
       again : (q : Parts) → fillParts L (partsOf (withoutUnknown (c .core))) ≡ some q → Ready L hints q
       again q e = look (maximalThree T (withoutUnknown (c .core))) refl q (sym (fill-parts A L [] whole (withoutUnknown (c .core))) ∙ e)
 
-  pub cuts : Slices buf ((partsOf (c .core)) .language) ((partsOf (c .core)) .script) ((partsOf (c .core)) .region) (restOf c) (f .language) (f .script) (f .region) (f .len)
+  -- how long the printed parts are
+  record Sizes : Type 0 where
+    language : f .language ≡ length (c .core .language)
+    script : f .script ≡ f .language + length (ledPart (c .core .script))
+    region : f .region ≡ f .script + length (ledPart (c .core .region))
+    len : f .len ≡ f .region + length (restOf c)
+
+  sizes : Sizes
   unfolding formOf partsOf bytesOf joinedParts
-  cuts =
+  sizes =
       let e = w .ends in
       let n : size c ≡ length (c .core .language) + length (ledPart (c .core .script)) + length (ledPart (c .core .region)) + length (restOf c) =
       sym (length-print c printable) ∙ (ap length (print-rest c) ∙ form-length (c .core .language) (ledPart (c .core .script)) (ledPart (c .core .region)) (restOf c)) in
@@ -161,7 +168,14 @@ module _ (A L : Bytes) (pass : check true false A L [] ≡ none) (hints : Bytes)
       let k = ap (λ (g : Form). g .len) e in
       let p = led-size (c .core .script) in
       let q = led-size (c .core .region) in
-      slices buf _ _ _ _ (f .language) (f .script) (f .region) (f .len) a (omega (arith, a, b, p)) (omega (arith, b, d, q)) (omega (arith, d, k, n, p, q)) (w .bytes ∙ print-rest c)
+      record { language = a; script = omega (arith, a, b, p); region = omega (arith, b, d, q); len = omega (arith, d, k, n, p, q) }
+
+  pub rest-length : f .len - f .region ≡ length (restOf c)
+  rest-length = let k = sizes .len in omega arith
+
+  pub cuts : Slices buf ((partsOf (c .core)) .language) ((partsOf (c .core)) .script) ((partsOf (c .core)) .region) (restOf c) (f .language) (f .script) (f .region) (f .len)
+  unfolding partsOf bytesOf joinedParts
+  cuts = slices buf _ _ _ _ (f .language) (f .script) (f .region) (f .len) (sizes .language) (sizes .script) (sizes .region) (sizes .len) (w .bytes ∙ print-rest c)
 
 -- where the parts end, one behind the other
 pub in-order : (f : Form) (i : Identifier) → f ≡ formOf i → (f .language ≤ f .script) × (f .script ≤ f .region) × (f .region ≤ f .len)
@@ -195,7 +209,7 @@ refusal-form Overlong buf k = (9, 0, refl, refl)
 pub refusal-one : {m n p q : ℕ} → refused-as m p ≡ refused-as n q → (m ≡ n) × (p ≡ q)
 refusal-one e = (cc, cc)
 
-refused-made : (A L x : Bytes) (b : Bool) (n p : ℕ) → outcome A x ≡ refused-as n p → make (tablesOf A L []) (operationOf b) x ≡ refusal n p 0
+pub refused-made : (A L x : Bytes) (b : Bool) (n p : ℕ) → outcome A x ≡ refused-as n p → make (tablesOf A L []) (operationOf b) x ≡ refusal n p 0
 unfolding outcome canonicalOf formed make makeOf made operate operationOf maximised minimised then
 refused-made A L x b n p e = go (read x) e
   where

@@ -153,7 +153,7 @@ unfolding ledPart
 led-length [] = omega arith
 led-length (b ∷ bs) = omega arith
 
-pub shaped-short : (t : Three) → Shaped t → length ((partsOf t) .language) + length ((partsOf t) .script) + length ((partsOf t) .region) ≤ 32
+pub shaped-short : (t : Three) → Shaped t → length ((partsOf t) .language) + length ((partsOf t) .script) + length ((partsOf t) .region) ≤ 26
 unfolding partsOf
 shaped-short t h =
     let a = language-short (t .language) (h .language) in

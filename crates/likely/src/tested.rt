@@ -33,7 +33,7 @@ fn blank() -> [u8; 512]
 }
 
 // The maximised or minimised form of the canonical form in buf.
-fn from_form<'a>(
+pub fn from_form<'a>(
     shorten: bool,
     buf: &'a [u8],
     f: Form,

@@ -1,0 +1,54 @@
+-- A bill that is being made: what stands in the arrays and the counts after some lines. Assumes nothing.
+use mathlib.Core.Path.{_≡_}
+use mathlib.Core.Logic.{_⊎_}
+use mathlib.Core.List.{List, [], _∷_, _++_, reverseAux}
+use mathlib.Core.Option.{Option, none, some}
+use Prim.Native.Nat.{ℕ, zero, suc, _+_, _≤_, _<_}
+use lib.ListN.{length, take}
+use Rattle.standard.specs.Identifier.{Tables}
+use Rattle.standard.specs.Delivery.{Bytes}
+use Rattle.standard.specs.Table.{TableFault, tablesOf, check}
+use Rattle.billing.specs.Bill.{Usage, usage, usages, refusals, none-made, billOf}
+use Rattle.ledger.specs.Places.{entriesFrom}
+use Rattle.ledger.specs.Ledger.{entriesOf}
+use Rattle.ledger.specs.Up.{Sized}
+use Rattle.month.specs.declared.Counts.{Counts}
+use Rattle.month.specs.declared.line.Used.{Used}
+
+-- what a usage line says: a member and the bytes of its key, or a refused line
+unfoldable pub usedBy : ℕ → ℕ → Bytes → Option Usage
+usedBy zero n out = none
+usedBy (suc m) n out = some (record { member = suc m; key = take n out })
+
+unfoldable pub usedIs : Used → Bytes → Option Usage
+usedIs r out = usedBy (r .member) (r .len) out
+
+-- counts that a bill can have
+pub record Bounded (c : Counts) : Type 0 where
+  pub keys : c .keys ≤ 512
+  pub lines : c .lines ≤ 1000000
+  pub refused : c .refused ≤ c .lines
+
+-- the counts of a refused bill; and after one line more
+unfoldable pub stopped : Counts → ℕ → Counts
+stopped c n = record { number = n; table = 0; place = 0; keys = c .keys; lines = c .lines; refused = c .refused }
+
+unfoldable pub oneMore : Counts → ℕ → ℕ → Counts
+oneMore c keys refused = record { number = c .number; table = c .table; place = c .place; keys = keys; lines = c .lines + 1; refused = refused }
+
+-- not refused so far: the entries of all lines
+pub record Going (T : Tables) (ls : List Bytes) (c : Counts) (ks : Bytes) (cs : List ℕ) : Type 0 where
+  pub number : c .number ≡ 0
+  pub lines : c .lines ≡ length ls
+  pub most-lines : c .lines ≤ 1000000
+  pub refused : c .refused ≡ refusals T ls
+  pub most-keys : c .keys ≤ 512
+  pub entries : entriesFrom ks cs 0 (c .keys) ≡ entriesOf (usages T (reverseAux ls []))
+
+-- refused for good, with 17 or 18, whatever comes
+pub record Stopped (T : Tables) (ls : List Bytes) (c : Counts) : Type 0 where
+  pub number : 15 ≤ c .number
+  pub bill : (ms : List Bytes) → billOf T (ls ++ ms) ≡ none-made (c .number)
+
+unfoldable pub Good : Tables → List Bytes → Counts → Bytes → List ℕ → Type 0
+Good T ls c ks cs = Going T ls c ks cs ⊎ Stopped T ls c
