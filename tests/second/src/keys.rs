@@ -2,11 +2,11 @@
 //! reports.
 
 use crate::reading::LONGEST;
-use crate::{read, Report, Tables};
+use crate::{read, Answer, Report, Tables};
 
 /// The lines of an input. Bytes after the last 0A are a line unless there are
 /// none.
-fn lines(input: &[u8]) -> Vec<&[u8]> {
+pub(crate) fn lines(input: &[u8]) -> Vec<&[u8]> {
     let mut lines: Vec<&[u8]> = input.split(|&byte| byte == b'\n').collect();
     if lines.last().is_some_and(|line| line.is_empty()) {
         lines.pop();
@@ -22,9 +22,14 @@ fn asked(line: &[u8], number: u8) -> &[u8] {
     }
 }
 
-fn print(output: &mut Vec<u8>, fields: &[&[u8]]) {
+pub(crate) fn print(output: &mut Vec<u8>, fields: &[&[u8]]) {
     output.extend_from_slice(&fields.join(&b'\t'));
     output.push(b'\n');
+}
+
+/// The line for a bad table: `table`, number, table, place.
+pub(crate) fn table_line(bad: Answer) -> Vec<u8> {
+    format!("table\t{}\t{}\t{}\n", bad.number, bad.table, bad.place).into_bytes()
 }
 
 /// The whole output of the program `keys`.
@@ -33,8 +38,7 @@ pub fn keys(input: &[u8], aliases: &[u8], likely: &[u8]) -> Vec<u8> {
     let tables = match Tables::likely(aliases, likely) {
         Ok(tables) => tables,
         Err(bad) => {
-            let line = format!("table\t{}\t{}\t{}\n", bad.number, bad.table, bad.place);
-            output.extend_from_slice(line.as_bytes());
+            output.extend_from_slice(&table_line(bad));
             return output;
         }
     };

@@ -1,17 +1,21 @@
 //! A second, independent implementation of the rules of document 01: reading,
 //! the canonical form, maximising, minimising, the chain of parents, the check
-//! of the three tables, and the programs over them.
+//! of the three tables, and the programs over them; and of the monthly bill of
+//! document 02, T-01.
 
+pub mod bill;
 pub mod canonical;
 pub mod chain;
 pub mod examples;
 pub mod gen;
 pub mod keys;
 pub mod likely;
+pub mod months;
 pub mod reading;
 pub mod subtag;
 pub mod table;
 
+pub use bill::bill;
 pub use keys::{inspect, keys};
 pub use table::{lookup, Tables};
 
@@ -73,11 +77,13 @@ impl Tables {
 
     /// Refused exactly when maximising is, before number 10.
     pub fn minimise(&self, id: &[u8], out: &mut [u8]) -> Answer {
-        let result = self.maximal(id).map(|maximal| {
-            let core = likely::minimal(maximal.main.core, self);
-            with_core(maximal, core).text()
-        });
+        let result = self.minimal(id).map(|minimal| minimal.text());
         result.map_or_else(|refusal| refusal, |text| Answer::give(&text, 0, out))
+    }
+
+    /// Language, script and region of the minimised form, as text.
+    pub fn key(&self, id: &[u8]) -> Result<Vec<u8>, Answer> {
+        self.minimal(id).map(|minimal| minimal.main.core.text())
     }
 
     pub fn chain(&self, id: &[u8], out: &mut [u8]) -> Answer {
@@ -102,6 +108,13 @@ impl Tables {
         let canonical = self.canonical(id)?;
         let core = likely::maximal(canonical.main.core, self).ok_or(Answer::refusal(8, 0))?;
         fitting(with_core(canonical, core))
+    }
+
+    /// The minimised form, or the refusal of the maximised one.
+    fn minimal(&self, id: &[u8]) -> Result<Identifier, Answer> {
+        let maximal = self.maximal(id)?;
+        let core = likely::minimal(maximal.main.core, self);
+        Ok(with_core(maximal, core))
     }
 }
 

@@ -1,9 +1,10 @@
 //! The command: answers cases from standard input, or runs `keys [DIR]`,
-//! `inspect` or `examples`.
+//! `bill [DIR]`, `inspect`, `examples` or `months TABLES INTO COUNT`.
 
 use second::keys::or_dash;
 use second::*;
 use std::io::{self, BufRead, BufWriter, Read, Write};
+use std::path::Path;
 use std::process::ExitCode;
 
 fn main() -> ExitCode {
@@ -11,11 +12,16 @@ fn main() -> ExitCode {
     let arguments: Vec<&str> = arguments.iter().map(String::as_str).collect();
     let done = match arguments[..] {
         [] => cases(),
-        ["keys"] => run_keys("."),
-        ["keys", folder] => run_keys(folder),
+        ["keys"] => run_over_tables(keys, "."),
+        ["keys", folder] => run_over_tables(keys, folder),
+        ["bill"] => run_over_tables(bill, "."),
+        ["bill", folder] => run_over_tables(bill, folder),
         ["inspect"] => run_inspect(),
         ["examples"] => run_examples(),
-        _ => Err("usage: second [keys [DIR] | inspect | examples]".to_string()),
+        ["months", tables, into, count] => run_months(tables, into, count),
+        _ => Err("usage: second [keys [DIR] | bill [DIR] | inspect | examples \
+            | months TABLES INTO COUNT]"
+            .to_string()),
     };
     match done {
         Ok(()) => ExitCode::SUCCESS,
@@ -37,10 +43,27 @@ fn print(output: &[u8]) -> Result<(), String> {
     stdout.write_all(output).and_then(|()| stdout.flush()).map_err(|error| error.to_string())
 }
 
-/// A file that can't be opened counts as zero bytes.
-fn run_keys(folder: &str) -> Result<(), String> {
-    let file = |name| std::fs::read(std::path::Path::new(folder).join(name)).unwrap_or_default();
-    print(&keys(&standard_input()?, &file("aliases.tsv"), &file("likely.tsv")))
+/// A program over standard input and the tables of a folder. A file that can't
+/// be opened counts as zero bytes.
+fn run_over_tables(
+    program: impl Fn(&[u8], &[u8], &[u8]) -> Vec<u8>,
+    folder: &str,
+) -> Result<(), String> {
+    let file = |name| std::fs::read(Path::new(folder).join(name)).unwrap_or_default();
+    print(&program(&standard_input()?, &file("aliases.tsv"), &file("likely.tsv")))
+}
+
+/// Random months, a folder each: the tables, and the lines in several orders.
+fn run_months(tables: &str, into: &str, count: &str) -> Result<(), String> {
+    let count = count.parse().map_err(|_| "no count".to_string())?;
+    let file = |name| std::fs::read(Path::new(tables).join(name)).map_err(|e| e.to_string());
+    let (aliases, likely) = (file("aliases.tsv")?, file("likely.tsv")?);
+    for seed in 0..count {
+        let folder = Path::new(into).join(format!("{seed:04}"));
+        let month = months::month(seed, &aliases, &likely);
+        month.write(&folder).map_err(|error| error.to_string())?;
+    }
+    Ok(())
 }
 
 fn run_inspect() -> Result<(), String> {
