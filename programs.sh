@@ -1,5 +1,5 @@
 #!/usr/bin/env bash
-# Runs the program of this script's name (keys, inspect, tables_check), and builds it on first use: it is proved first,
+# Runs the program of this script's name (keys, inspect, tables_check, bill), and builds it on first use: it is proved first,
 # with everything that it rests on. The tables are those of the current folder, or those of tables/ where it has none.
 set -euo pipefail
 here=$(cd "$(dirname "$0")" && pwd)

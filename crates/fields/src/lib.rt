@@ -104,7 +104,7 @@ pub fn put_asked(number: u8, line: &[u8], out: &mut [u8], at: usize) -> usize
 }
 
 // Writes the line of a bad table at the front of out.
-fn put_table(number: usize, table: usize, place: usize, out: &mut [u8]) -> usize
+pub fn put_table(number: usize, table: usize, place: usize, out: &mut [u8]) -> usize
     requires { ⌜ 80 ≤ length (now out) ⌝ }
     ensures { λ r. ⌜ (r ≡ length (tableText number table place)) × (now (out .exit) ≡ sets (now (out .entry)) 0 (tableText number table place)) × (r ≤ 80) ⌝ }
 {

@@ -20,7 +20,7 @@ use Rattle.ledger.specs.Entries.{markOf}
 use Rattle.ledger.specs.Ledger.{marksOf}
 
 -- a member number
-pub Member : Usage → Type 0
+unfoldable pub Member : Usage → Type 0
 Member u = (1 ≤ u .member) × (u .member ≤ 64)
 
 or-again : (p n : ℕ) → bit n p ≡ 1 → bitOr n (2 ^ p) ≡ n

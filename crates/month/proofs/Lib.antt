@@ -4,3 +4,6 @@ pub mod Usages
 pub mod Goings
 pub mod Taking
 pub mod Texts
+pub mod Bills
+pub mod Helds
+pub mod Cuts

@@ -14,7 +14,7 @@ use Rattle.ledger.specs.Entries.{Entry}
 use Rattle.fields.proofs.Laws.{field-length}
 use Rattle.ledger.proofs.Places.{key-part}
 use Rattle.ledger.specs.Places.{bytesAt, atMost31, textAt, entryAt, entriesFrom}
-use Rattle.month.specs.Text.{entryText, entriesText}
+use Rattle.month.specs.Text.{header, lastText, entryText, entriesText}
 
 -- a key and a tab have at most 32 bytes
 bytes-length : (ks : Bytes) (at n : ℕ) → length (bytesAt ks at n) ≡ n
@@ -75,3 +75,32 @@ pub rows-all : (o₀ o : Bytes) (at end : ℕ) (ks : Bytes) (cs : List ℕ) (i n
     → (end ≡ at + length (entriesText (entriesFrom ks cs 0 n))) × (o ≡ sets o₀ at (entriesText (entriesFrom ks cs 0 n))) × (end ≤ at + 40960)
 rows-all o₀ o at end ks cs i n w e h k =
     (w .end-is ∙ ap (λ (j : ℕ). at + length (entriesText (entriesFrom ks cs 0 j))) e, w .written ∙ ap (λ (j : ℕ). sets o₀ at (entriesText (entriesFrom ks cs 0 j))) e, omega arith)
+
+-- the last row: what is always the same, and a number
+pub last-start : length (field (45 ∷ 9 ∷ 48 ∷ []) 9) ≡ 4
+unfolding field
+last-start = refl
+
+last-parts : (n : ℕ) → lastText n ≡ field (45 ∷ 9 ∷ 48 ∷ []) 9 ++ field (decimal n) 10
+unfolding field lastText
+last-parts n = refl
+
+header-length : length header ≡ 23
+unfolding header field
+header-length = refl
+
+pub last-written : (o o₁ o₂ : Bytes) (at p r n : ℕ) → p ≡ at + length (field (45 ∷ 9 ∷ 48 ∷ []) 9) → o₁ ≡ sets o at (field (45 ∷ 9 ∷ 48 ∷ []) 9)
+    → r ≡ p + length (field (decimal n) 10) → o₂ ≡ sets o₁ p (field (decimal n) 10) → (r ≡ at + length (lastText n)) × (o₂ ≡ sets o at (lastText n))
+last-written o o₁ o₂ at p r n a b c d = wrote-two o o₁ o₂ at p r (field (45 ∷ 9 ∷ 48 ∷ []) 9) (field (decimal n) 10) (lastText n) (last-parts n) a b c d
+
+-- the header
+pub header-put : (o o₁ : Bytes) (r : ℕ) → r ≡ 0 + length header → o₁ ≡ sets o 0 header → (r ≡ 0 + length header) × (o₁ ≡ sets o 0 header) × (r ≤ 23)
+header-put o o₁ r e f = (e, f, omega (arith, header-length))
+
+-- header, rows and the last row
+pub bill-written : (o o₁ o₂ o₃ : Bytes) (p q r : ℕ) (x y : Bytes) → p ≡ 0 + length header → o₁ ≡ sets o 0 header → q ≡ p + length x → o₂ ≡ sets o₁ p x → r ≡ q + length y → o₃ ≡ sets o₂ q y
+    → (r ≡ length (header ++ (x ++ y))) × (o₃ ≡ sets o 0 (header ++ (x ++ y)))
+bill-written o o₁ o₂ o₃ p q r x y a b c d e f =
+    let w = wrote-two o₁ o₂ o₃ p q r x y (x ++ y) refl c d e f in
+    let v = wrote-two o o₁ o₃ 0 p r header (x ++ y) (header ++ (x ++ y)) refl a b (w .0) (w .1) in
+    (let z = v .0 in omega (arith, z), v .1)

@@ -1,17 +1,17 @@
 -- The text of a bill. Assumes nothing.
-use mathlib.Core.Bool.{Bool, true, false, cond}
+use mathlib.Core.Bool.{true, false, cond}
 use mathlib.Core.List.{List, [], _∷_, _++_}
 use mathlib.Core.Option.{Option, none, some}
 use Prim.Native.Nat.{ℕ}
 use lib.Count.{ones}
-use lib.Dec.{leb}
-use lib.ListN.{length}
-use lib.Seq.{sets}
+use lib.Dec.{eqb, ltb}
 use Rattle.standard.specs.Delivery.{Bytes}
 use Rattle.standard.specs.Table.{TableFault, tablesOf, check}
 use Rattle.fields.specs.Fields.{decimal, field, tableText}
 use Rattle.billing.specs.Bill.{Row, Bill, bill, none-made, billOf}
 use Rattle.ledger.specs.Entries.{Entry}
+use Rattle.ledger.specs.Places.{entriesFrom}
+use Rattle.month.specs.declared.Counts.{Counts}
 
 -- 02, T-01: `key`, `members`, `deliveries` as a header, tab-parted
 unfoldable pub header : Bytes
@@ -49,3 +49,9 @@ entryText e = field (e .key) 9 ++ (field (decimal (ones (e .marks))) 9 ++ field 
 unfoldable pub entriesText : List Entry → Bytes
 entriesText [] = []
 entriesText (e ∷ es) = entryText e ++ entriesText es
+
+-- what the counts and the arrays of a bill print
+unfoldable pub countsText : Counts → Bytes → List ℕ → Bytes
+countsText c ks cs =
+    cond (eqb (c .number) 0) (header ++ (entriesText (entriesFrom ks cs 0 (c .keys)) ++ lastText (c .refused)))
+    (cond (ltb (c .number) 15) (tableText (c .number) (c .table) (c .place)) (field (decimal (c .number)) 10))

@@ -5,6 +5,22 @@ pub mod piece;
 pub mod shape;
 pub mod text;
 
+use canonical::buffer::buffer;
+use table::hints::fill_hints;
+use verdict::Verdict;
+use verdict::check_likely;
+ghost use mathlib.Core.Path.{_≡_};
+ghost use mathlib.Core.List.{List, [], _++_};
+ghost use Prim.Native.Nat.{ℕ};
+ghost use lib.ListN.{length};
+ghost use Rattle.standard.specs.Delivery.{Bytes};
+ghost use Rattle.standard.specs.Table.{tablesOf};
+ghost use Rattle.table.specs.Lines.{lines};
+ghost use Rattle.likely.specs.Both.{TestedBoth};
+ghost use Rattle.ledger.specs.Up.{Sized};
+ghost use Rattle.month.specs.State.{Bounded, Going, Good};
+ghost use Rattle.month.specs.Held.{Held, judgedBy};
+
 // A bill's refusal (11 to 14 for the tables, 17 or 18), with the table and the place of a table's; the number of its keys,
 // of the lines read and of those refused.
 pub struct Counts {
@@ -14,4 +30,107 @@ pub struct Counts {
     pub keys: usize,
     pub lines: usize,
     pub refused: usize,
+}
+
+// The counts after the check of the tables: a bad one's number, table and place.
+fn judged(v: Verdict, c: Counts) -> Counts
+    ensures { λ r. ⌜ r ≡ judgedBy v c ⌝ }
+{
+    match v {
+        Verdict::Good => c,
+        Verdict::Bad(number, table, place) => Counts {
+            number,
+            table,
+            place,
+            keys: c.keys,
+            lines: c.lines,
+            refused: c.refused,
+        },
+    }
+}
+
+// The counts of a bill over no lines, or of one with bad tables. Its arrays are 16,384 bytes for the keys and 1,024
+// numbers, whatever stands in them.
+pub fn start(aliases: &[u8], likely: &[u8]) -> Counts
+    ensures { λ r. ⌜ ((ks : Bytes) → (cs : List ℕ) → Sized ks cs → Held (now (aliases .entry)) (now (likely .entry)) [] r ks cs) ⌝ }
+{
+    let v = check_likely(aliases, likely);
+    judged(
+        v,
+        Counts {
+            number: 0,
+            table: 0,
+            place: 0,
+            keys: 0,
+            lines: 0,
+            refused: 0,
+        },
+    )
+}
+
+// Room for the hints of a table.
+fn no_hints() -> [u16; 16384]
+    ensures { λ r. ⌜ length r ≡ 16384 ⌝ }
+{
+    [0u16; 16384]
+}
+
+// Takes the lines of a piece into a bill that is not refused, over tables that passed their check. Their hints are made
+// once for the piece.
+fn add_tested(
+    c: Counts,
+    piece: &[u8],
+    aliases: &[u8],
+    likely: &[u8],
+    keys: &mut [u8],
+    counts: &mut [u64],
+) -> Counts
+    requires { ⌜ TestedBoth (now aliases) (now likely) × Bounded c × Sized (now keys) (now counts) ⌝ }
+    ensures { λ r. ⌜ Bounded r × Sized (now (keys .exit)) (now (counts .exit))
+        × ((ls : List Bytes) → Going (tablesOf (now (aliases .entry)) (now (likely .entry)) []) ls c (now (keys .entry)) (now (counts .entry))
+        → Good (tablesOf (now (aliases .entry)) (now (likely .entry)) []) (ls ++ lines (now (piece .entry))) r (now (keys .exit)) (now (counts .exit))) ⌝ }
+{
+    let mut a = no_hints();
+    fill_hints(aliases, &mut a);
+    let mut l = no_hints();
+    fill_hints(likely, &mut l);
+    let mut out = buffer();
+    piece::take_lines(c, piece, aliases, &a, likely, &l, keys, counts, &mut out)
+}
+
+// Takes the lines of a piece into a bill. A refused bill stays as it is.
+pub fn add(
+    c: Counts,
+    piece: &[u8],
+    aliases: &[u8],
+    likely: &[u8],
+    keys: &mut [u8],
+    counts: &mut [u64],
+) -> Counts
+    ensures { λ r. ⌜ ((ls : List Bytes) → Held (now (aliases .entry)) (now (likely .entry)) ls c (now (keys .entry)) (now (counts .entry))
+        → Held (now (aliases .entry)) (now (likely .entry)) (ls ++ lines (now (piece .entry))) r (now (keys .exit)) (now (counts .exit))) ⌝ }
+{
+    if c.number != 0 {
+        return c;
+    }
+    if keys.len() != 16384 {
+        return c;
+    }
+    if counts.len() != 1024 {
+        return c;
+    }
+    if 512 < c.keys {
+        return c;
+    }
+    if 1000000 < c.lines {
+        return c;
+    }
+    if c.lines < c.refused {
+        return c;
+    }
+    let v = check_likely(aliases, likely);
+    let Verdict::Good = v else {
+        return judged(v, c);
+    };
+    add_tested(c, piece, aliases, likely, keys, counts)
 }

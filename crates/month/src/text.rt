@@ -2,9 +2,10 @@
 use crate::Counts;
 use fields::put;
 use fields::put_number;
+use fields::put_table;
 ghost use mathlib.Core.Path.{_≡_};
-ghost use mathlib.Core.List.{List, []};
-ghost use Prim.Native.Nat.{ℕ, _+_, _≤_, _<_};
+ghost use mathlib.Core.List.{List, _++_};
+ghost use Prim.Native.Nat.{_+_, _≤_, _<_};
 ghost use lib.Count.{ones};
 ghost use lib.ListN.{length};
 ghost use lib.Seq.{sets};
@@ -12,7 +13,7 @@ ghost use Rattle.standard.specs.Delivery.{Bytes};
 ghost use Rattle.fields.specs.Fields.{field};
 ghost use Rattle.ledger.specs.Places.{textAt, entryAt, entriesFrom};
 ghost use Rattle.ledger.specs.Up.{Sized};
-ghost use Rattle.month.specs.Text.{header, lastText, entryText, entriesText, monthText};
+ghost use Rattle.month.specs.Text.{header, lastText, entryText, entriesText, monthText, countsText};
 ghost use Rattle.month.specs.Held.{Held};
 
 // How many members have a mark.
@@ -56,4 +57,69 @@ fn put_rows(keys: &[u8], counts: &[u64], n: usize, out: &mut [u8], at: usize) ->
         i += 1;
     }
     end
+}
+
+// The row of the refused lines.
+fn put_last(refused: usize, out: &mut [u8], at: usize) -> usize
+    requires { ⌜ at + 25 ≤ length (now out) ⌝ }
+    ensures { λ r. ⌜ (r ≡ at + length (lastText refused)) × (now (out .exit) ≡ sets (now (out .entry)) at (lastText refused)) × (r ≤ at + 25) ⌝ }
+{
+    let p = put(b"-\t0", b'\t', out, at);
+    put_number(refused, b'\n', out, p)
+}
+
+// The header.
+fn put_header(out: &mut [u8]) -> usize
+    requires { ⌜ 23 ≤ length (now out) ⌝ }
+    ensures { λ r. ⌜ (r ≡ 0 + length header) × (now (out .exit) ≡ sets (now (out .entry)) 0 header) × (r ≤ 23) ⌝ }
+{
+    put(b"key\tmembers\tdeliveries", b'\n', out, 0)
+}
+
+// A bill that was made.
+fn put_bill(n: usize, refused: usize, keys: &[u8], counts: &[u64], out: &mut [u8]) -> usize
+    requires { ⌜ (n ≤ 512) × Sized (now keys) (now counts) × (65536 ≤ length (now out)) ⌝ }
+    ensures { λ r. ⌜ (r ≡ length (header ++ (entriesText (entriesFrom (now (keys .entry)) (now (counts .entry)) 0 n) ++ lastText refused)))
+        × (now (out .exit) ≡ sets (now (out .entry)) 0 (header ++ (entriesText (entriesFrom (now (keys .entry)) (now (counts .entry)) 0 n) ++ lastText refused)))
+        × (r ≤ 65536) ⌝ }
+{
+    let p = put_header(out);
+    let q = put_rows(keys, counts, n, out, p);
+    put_last(refused, out, q)
+}
+
+// A bill, the line of a bad table, or the number of a refusal.
+fn put_text(c: Counts, keys: &[u8], counts: &[u64], out: &mut [u8]) -> usize
+    requires { ⌜ (c .keys ≤ 512) × Sized (now keys) (now counts) × (65536 ≤ length (now out)) ⌝ }
+    ensures { λ r. ⌜ (r ≡ length (countsText c (now (keys .entry)) (now (counts .entry)))) × (now (out .exit) ≡ sets (now (out .entry)) 0 (countsText c (now (keys .entry)) (now (counts .entry)))) × (r ≤ 65536) ⌝ }
+{
+    if c.number == 0 {
+        return put_bill(c.keys, c.refused, keys, counts, out);
+    }
+    if c.number < 15 {
+        return put_table(c.number as usize, c.table as usize, c.place, out);
+    }
+    put_number(c.number as usize, b'\n', out, 0)
+}
+
+// Writes the text of a bill at the front of out, which needs 65,536 bytes, and gives its length. Where it has fewer, or
+// the arrays are not a bill's, it writes nothing and gives 0.
+pub fn write(c: Counts, keys: &[u8], counts: &[u64], out: &mut [u8]) -> usize
+    ensures { λ r. ⌜ (r ≤ length (now (out .entry))) × (length (now (out .entry)) < 65536 → (r ≡ 0) × (now (out .exit) ≡ now (out .entry)))
+        × ((A L : Bytes) → (ls : List Bytes) → Held A L ls c (now (keys .entry)) (now (counts .entry)) → 65536 ≤ length (now (out .entry))
+        → (r ≡ length (monthText A L ls)) × (now (out .exit) ≡ sets (now (out .entry)) 0 (monthText A L ls))) ⌝ }
+{
+    if out.len() < 65536 {
+        return 0;
+    }
+    if keys.len() != 16384 {
+        return 0;
+    }
+    if counts.len() != 1024 {
+        return 0;
+    }
+    if 512 < c.keys {
+        return 0;
+    }
+    put_text(c, keys, counts, out)
 }
