@@ -18,11 +18,10 @@ use Rattle.standard.proofs.Closed.{canon-printable}
 use Rattle.standard.proofs.Table.{shaped-tables}
 use Rattle.reader.specs.Parts.{partsOf}
 use Rattle.table.specs.Lines.{endOf}
-use Rattle.subtag.specs.Bytes.{raised}
 use Rattle.canonical.specs.declared.three.Ends.{Ends}
 use Rattle.canonical.specs.Section.{led}
 use Rattle.canonical.specs.Alias.{replacedBy, aliasedPart}
-use Rattle.canonical.specs.Three.{endsOf, between, afterSeparator, scriptStart, scriptEnd, scriptBytes, regionBytes, languageLookup, languageWord, canonicalThree}
+use Rattle.canonical.specs.Three.{endsOf, afterSeparator, scriptStart, scriptEnd, partBytes, languageLookup, languageWord, canonicalThree}
 use Rattle.canonical.proofs.Cuts.{part-led}
 use Rattle.canonical.proofs.Keyed.{front-in}
 use Rattle.canonical.proofs.Ready.{raw}
@@ -41,21 +40,21 @@ aliased-part A name (b ∷ bs) = go (lookup (rows A) (name ++ (b ∷ bs))) refl
     go (some v) e = rw (e, replace)
 
 -- What the writer of the three meets.
-pub record Written (A x w : List ℕ) (q : ReaderParts) (e s : ℕ) : Type 0 where
+pub record Written (A x w : List ℕ) (q : ReaderParts) (e s script-at region-at : ℕ) : Type 0 where
   pub rises : q .language ≤ q .script
   pub script-fits : q .script ≤ length x
-  pub script-small : q .script - scriptStart (q .language) (q .script) ≤ 8
+  pub script-small : q .script - script-at ≤ 8
   pub climbs : q .script ≤ q .region
   pub region-fits : q .region ≤ length x
-  pub region-small : q .region - afterSeparator (q .script) (q .region) ≤ 8
-  pub text : printThree (canonicalThree A x) ≡ take e w ++ (scriptBytes A x (q .language) (q .script) w e s ++ regionBytes A x (q .script) (q .region) w s (length w))
-  pub ends : (a b c : ℕ) → a ≡ 0 + length (take e w) → b ≡ a + length (scriptBytes A x (q .language) (q .script) w e s)
-      → c ≡ b + length (regionBytes A x (q .script) (q .region) w s (length w)) → _≡_ {A = Ends} (record { language = a; script = b; region = c }) (endsOf (canonicalThree A x))
+  pub region-small : q .region - region-at ≤ 8
+  pub text : printThree (canonicalThree A x) ≡ take e w ++ (partBytes A scriptKey 1 x script-at (q .script) w e s ++ partBytes A regionKey 8 x region-at (q .region) w s (length w))
+  pub ends : (a b c : ℕ) → a ≡ 0 + length (take e w) → b ≡ a + length (partBytes A scriptKey 1 x script-at (q .script) w e s)
+      → c ≡ b + length (partBytes A regionKey 8 x region-at (q .region) w s (length w)) → _≡_ {A = Ends} (record { language = a; script = b; region = c }) (endsOf (canonicalThree A x))
   pub word-rises : e ≤ s
   pub word-fits : s ≤ length w
   pub word-script : s - afterSeparator e s ≤ 8
   pub word-region : length w - afterSeparator s (length w) ≤ 8
-  pub room : length (take e w) + (length (scriptBytes A x (q .language) (q .script) w e s) + length (regionBytes A x (q .script) (q .region) w s (length w))) ≤ 17
+  pub room : length (take e w) + (length (partBytes A scriptKey 1 x script-at (q .script) w e s) + length (partBytes A regionKey 8 x region-at (q .region) w s (length w))) ≤ 17
 
 module _ (A x : List ℕ) (t : check false false A [] [] ≡ none) (f : faultOf x ≡ none) where
   abbrev i : Identifier
@@ -100,14 +99,6 @@ module _ (A x : List ℕ) (t : check false false A [] [] ≡ none) (f : faultOf 
     G : Given x (q .language) (q .script) (q .region) (i .core)
     G = front x f q p
 
-    script-text : scriptBytes A x (q .language) (q .script) w e s ≡ led (optional (replace (T .scripts) S))
-    unfolding scriptBytes
-    script-text = ap₂ (λ (a b : Tag). aliasedPart A scriptKey (pick a b)) (G .script-is) (ends-are .script) ∙ part-script S
-
-    region-text : regionBytes A x (q .script) (q .region) w s (length w) ≡ led (optional (replace (T .regions) R))
-    unfolding regionBytes
-    region-text = ap₂ (λ (a b : Tag). aliasedPart A regionKey (pick a b)) (G .region-is) (ends-are .region) ∙ part-region R
-
     canonical-is : canonicalThree A x ≡ three (W .value .language) (replace (T .scripts) S) (replace (T .regions) R)
     canonical-is = three-is _ (W .alias (i .core) refl)
 
@@ -119,27 +110,36 @@ module _ (A x : List ℕ) (t : check false false A [] [] ≡ none) (f : faultOf 
         let d = led-four (replace (T .regions) R) (region-size (replace (T .regions) R) (z .region)) in
         ⊎-elim (λ n. omega arith) (λ n. omega arith) b
 
-    pub written : Written A x w q e s
-    unfolding endsOf
-    written = record {
-      rises = G .rises;
-      script-fits = G .script-fits;
-      script-small = G .script-small;
-      climbs = G .climbs;
-      region-fits = G .region-fits;
-      region-small = G .region-small;
-      text = ap printThree canonical-is ∙ three-led _ ∙ ap₂ (λ (a b : List ℕ). a ++ b) (sym (ends-are .language)) (ap₂ (λ (a b : List ℕ). a ++ b) (sym script-text) (sym region-text));
-      ends = λ a b c u v z.
-          let l : a ≡ length (W .value .language) = omega (arith, ap length (ends-are .language)) in
-          let m : b ≡ length (W .value .language) + part (replace (T .scripts) S) = omega (arith, ap length script-text, part-led (replace (T .scripts) S)) in
-          let n : c ≡ length (W .value .language) + part (replace (T .scripts) S) + part (replace (T .regions) R) = omega (arith, ap length region-text, part-led (replace (T .regions) R)) in
-          (λ j. record { language = l j; script = m j; region = n j }) ∙ ap endsOf (sym canonical-is);
-      word-rises = ends-are .rises;
-      word-fits = ends-are .fits;
-      word-script = ends-are .script-small;
-      word-region = ends-are .region-small;
-      room = let z = sizes in omega (arith, ap length (ends-are .language), ap length script-text, ap length region-text);
-    }
+    module _ (script-at region-at : ℕ) (u : script-at ≡ scriptStart (q .language) (q .script)) (v : region-at ≡ afterSeparator (q .script) (q .region)) where
+      script-text : partBytes A scriptKey 1 x script-at (q .script) w e s ≡ led (optional (replace (T .scripts) S))
+      unfolding partBytes
+      script-text = rw u (ap₂ (λ (a b : Tag). aliasedPart A scriptKey (pick a b)) (G .script-is) (ends-are .script) ∙ part-script S)
+
+      region-text : partBytes A regionKey 8 x region-at (q .region) w s (length w) ≡ led (optional (replace (T .regions) R))
+      unfolding partBytes
+      region-text = rw v (ap₂ (λ (a b : Tag). aliasedPart A regionKey (pick a b)) (G .region-is) (ends-are .region) ∙ part-region R)
+
+      pub written : Written A x w q e s script-at region-at
+      unfolding endsOf
+      written = record {
+        rises = G .rises;
+        script-fits = G .script-fits;
+        script-small = rw u (G .script-small);
+        climbs = G .climbs;
+        region-fits = G .region-fits;
+        region-small = rw v (G .region-small);
+        text = ap printThree canonical-is ∙ three-led _ ∙ ap₂ (λ (a b : List ℕ). a ++ b) (sym (ends-are .language)) (ap₂ (λ (a b : List ℕ). a ++ b) (sym script-text) (sym region-text));
+        ends = λ a b c u v z.
+            let l : a ≡ length (W .value .language) = omega (arith, ap length (ends-are .language)) in
+            let m : b ≡ length (W .value .language) + part (replace (T .scripts) S) = omega (arith, ap length script-text, part-led (replace (T .scripts) S)) in
+            let n : c ≡ length (W .value .language) + part (replace (T .scripts) S) + part (replace (T .regions) R) = omega (arith, ap length region-text, part-led (replace (T .regions) R)) in
+            (λ j. record { language = l j; script = m j; region = n j }) ∙ ap endsOf (sym canonical-is);
+        word-rises = ends-are .rises;
+        word-fits = ends-are .fits;
+        word-script = ends-are .script-small;
+        word-region = ends-are .region-small;
+        room = let z = sizes in omega (arith, ap length (ends-are .language), ap length script-text, ap length region-text);
+      }
 
   pub word-small : length (languageWord A x) ≤ 17
   word-small =

@@ -8,13 +8,14 @@ use native.Mathlib.Omega.{arith}
 use lib.ListN.{length, take, drop}
 use lib.Seq.{sets, sets-eq}
 use borrow.Author.Tests.{le-leb, lt-leb}
-use types.Run.{OneOf, miss}
+use types.Run.{OneOf}
 use denote.Enum.Declared.{tagOf}
 use Rattle.standard.specs.Delivery.{Made, result, refusal as refusalMade, given}
 use Rattle.standard.specs.Identifier.{Answer as StandardAnswer, done, refused, canonical}
 use Rattle.standard.specs.Reading.{Fault, Read, good, bad, read}
 use Rattle.standard.specs.Calls.{canonicalise}
-use Rattle.standard.specs.Table.{tablesOf, TableFault, inTable, firstTable, check}
+use Rattle.standard.proofs.Table.{firstTable-none}
+use Rattle.standard.specs.Table.{tablesOf, TableFault, inTable, check}
 use Rattle.standard.specs.Make.{made, operate, makeOf, make, afterCheck, canonicaliseMade}
 use Rattle.rows.specs.declared.Table.the-variants.{Aliases}
 use Rattle.rows.specs.Rows.{shapeOf}
@@ -26,11 +27,12 @@ use Rattle.canonical.proofs.form.Canon.{the-type}
 use Rattle.canonical.specs.declared.delivery.Answer.{Answer}
 use Rattle.canonical.specs.declared.form.Form.{Form}
 use Rattle.canonical.specs.declared.form.Canon.{Canon}
-use Rattle.canonical.specs.declared.form.Canon.the-variants.{Formed, Empty, TooLong, BadByte, BadSize, Misplaced, Repeated, Unfinished, Overlong}
+use Rattle.canonical.specs.declared.form.Canon.the-variants.{Formed}
 use Rattle.table.specs.Hints.{Hinted}
 use Rattle.canonical.specs.Tested.{Tested, TestedWith}
-use Rattle.canonical.specs.Form.{Outcome, outcomeOf, formed, canonicalOf, outcome, FormFits}
-use Rattle.canonical.specs.Answer.{answerOf, refusedAnswer, refusedOf, refusedTable, madeOf}
+use Rattle.canonical.specs.Form.{Outcome, outcomeOf, formed, canonicalOf, outcome}
+use Rattle.canonical.specs.Answer.{answerOf, refusedAnswer, refusedOf, refusedTable, madeOf, givenRefused}
+use Rattle.canonical.proofs.Canonicalised.{refusal-form, refused-answer}
 
 pub too-short : (b out : List ℕ) (steps : ℕ) (r : Answer) → r ≡ refusedAnswer 10 0 0 → length out < length b → answerOf r out ≡ given (result b steps) out
 unfolding answerOf refusedAnswer given
@@ -65,19 +67,11 @@ made-outcome A x = go (read x)
 -- a refusal of canonicalising, delivered
 pub refused-stands : (A x b out : List ℕ) (c : Canon) (r : Answer) → r ≡ refusedOf c → outcomeOf c b ≡ outcome A x → OneOf (1 ∷ 2 ∷ 3 ∷ 4 ∷ 5 ∷ 6 ∷ 7 ∷ 8 ∷ []) (tagOf the-type c)
     → answerOf r out ≡ given (make (tablesOf A [] []) canonicalise x) out
-unfolding refusedOf outcomeOf madeOf
-refused-stands A x b out c r e f k = ap (λ (a : Answer). answerOf a out) e ∙ case c k ∙ ap (λ (o : Outcome). given (madeOf o) out) f ∙ ap (λ (m : Made). given m out) (made-outcome A x)
-  where
-    case : (c : Canon) → OneOf (1 ∷ 2 ∷ 3 ∷ 4 ∷ 5 ∷ 6 ∷ 7 ∷ 8 ∷ []) (tagOf the-type c) → answerOf (refusedOf c) out ≡ given (madeOf (outcomeOf c b)) out
-    case (Formed f) k = absurd (miss (1 ∷ 2 ∷ 3 ∷ 4 ∷ 5 ∷ 6 ∷ 7 ∷ 8 ∷ []) 0 tt k)
-    case Empty k = refused-given 1 0 0 out
-    case TooLong k = refused-given 2 0 0 out
-    case (BadByte at) k = refused-given 3 at 0 out
-    case (BadSize at) k = refused-given 4 at 0 out
-    case (Misplaced at) k = refused-given 5 at 0 out
-    case (Repeated at) k = refused-given 6 at 0 out
-    case (Unfinished at) k = refused-given 7 at 0 out
-    case Overlong k = refused-given 9 0 0 out
+unfolding givenRefused madeOf given
+refused-stands A x b out c r e f k =
+    let z = refusal-form c b k in
+    let g : givenRefused (outcomeOf c []) out ≡ given (madeOf (outcomeOf c b)) out = ap (λ (o : Outcome). givenRefused o out) (z .2) ∙ sym (ap (λ (o : Outcome). given (madeOf o) out) (z .3)) in
+    ap (λ (a : Answer). answerOf a out) e ∙ refused-answer c out ∙ g ∙ ap (λ (o : Outcome). given (madeOf o) out) f ∙ ap (λ (m : Made). given m out) (made-outcome A x)
 
 -- a form, delivered
 pub form-delivered : (A x b out out′ : List ℕ) (c : Canon) (f : Form) (r : Answer) → c ≡ Formed f → outcomeOf c b ≡ outcome A x → answerOf r out′ ≡ given (result (take (f .len) b) 0) out
@@ -85,16 +79,7 @@ pub form-delivered : (A x b out out′ : List ℕ) (c : Canon) (f : Form) (r : A
 unfolding outcomeOf madeOf
 form-delivered A x b out out′ c f r e g h = h ∙ ap (λ (o : Outcome). given (madeOf o) out) (sym (ap (λ (d : Canon). outcomeOf d b) e) ∙ g) ∙ ap (λ (m : Made). given m out) (made-outcome A x)
 
-pub form-small : (c : Canon) (f : Form) → c ≡ Formed f → FormFits c → f .len ≤ 255
-unfolding FormFits
-form-small c f e h = rw e at h
-
 -- Aliases that passed the check ascend.
-first-none : (a b : Option TableFault) → firstTable a b ≡ none → (a ≡ none) × (b ≡ none)
-unfolding firstTable
-first-none none b e = (refl, e)
-first-none (some f) b e = absurd (let z : _≡_ {A = ℕ} 0 1 = cc in omega arith)
-
 in-none : (n : ℕ) (o : Option Fault) → inTable true n o ≡ none → o ≡ none
 unfolding inTable
 in-none n none e = refl
@@ -103,10 +88,10 @@ in-none n (some f) e = absurd (let z : _≡_ {A = ℕ} 0 1 = cc in omega arith)
 pub tested : (A : List ℕ) → check false false A [] [] ≡ none → Tested A
 unfolding check shapeOf
 tested A e =
-    let f₁ = first-none _ _ e in
-    let f₂ = first-none _ _ (f₁ .1) in
-    let f₃ = first-none _ _ (f₂ .1) in
-    let f₄ = first-none _ _ (f₃ .1) in
+    let f₁ = firstTable-none _ _ e in
+    let f₂ = firstTable-none _ _ (f₁ .1) in
+    let f₃ = firstTable-none _ _ (f₂ .1) in
+    let f₄ = firstTable-none _ _ (f₃ .1) in
     record { passes = e; sorted = sorted-rows.sorted Aliases A (in-none 1 _ (f₄ .0)) }
 
 pub tested-with : (A hints : List ℕ) → check false false A [] [] ≡ none → Hinted A hints → TestedWith A hints

@@ -8,7 +8,7 @@ use lib.ListN.{length, take, drop, length-append, length-map, length-drop}
 use lib.Seq.{take-all, length-take-le}
 use borrow.Author.Tests.{lt-leb}
 use Rattle.standard.specs.Tag.{Tag, sortBy, itself, label}
-use Rattle.standard.specs.Grammar.{Groups, withTag, grouped, flat, only, others, isVariant, isField, arrangePart, arrangeFields}
+use Rattle.standard.specs.Grammar.{Groups, withTag, grouped, flat, only, others, isVariant, isFieldKey, arrangePart, arrangeFields}
 use Rattle.standard.specs.Reading.{split, afterFirst}
 use Rattle.subtag.specs.declared.Subtag.{Subtag}
 use Rattle.canonical.specs.declared.section.What.the-variants.{Field, Variant}
@@ -110,14 +110,14 @@ part-first s t n l d =
     (omega (arith, w .on .fits), rw (← q) (w .on .begins))
 
 -- The fields.
-agree : (t : Tag) → keyOrValue t ≡ true → isField t ≡ isHead 2 t
-unfolding keyOrValue isField isHead
+agree : (t : Tag) → keyOrValue t ≡ true → isFieldKey t ≡ isHead 2 t
+unfolding keyOrValue isFieldKey isHead
 agree [] h = h
 agree (a ∷ []) h = h
 agree (a ∷ b ∷ []) h = h
 agree (a ∷ b ∷ c ∷ t) h = sym (lt-leb (length (a ∷ b ∷ c ∷ t)) 2 (omega arith))
 
-grouped-agree : (ts : List Tag) → everyTag keyOrValue ts ≡ true → grouped isField ts ≡ grouped (isHead 2) ts
+grouped-agree : (ts : List Tag) → everyTag keyOrValue ts ≡ true → grouped isFieldKey ts ≡ grouped (isHead 2) ts
 unfolding grouped everyTag
 grouped-agree [] e = refl
 grouped-agree (t ∷ ts) e =
@@ -139,11 +139,11 @@ fields-at : (s : List ℕ) (k : ℕ) → Led s → Plain (tagsOf s) → FieldsOk
 unfolding FieldsOk arrangeFields sortedBytes sortedTags tagTest
 fields-at s k l h o e =
     let ts = tagsOf s in
-    let g = grouped isField ts in
+    let g = grouped isFieldKey ts in
     let w = parted-at Field s k l h e in
-    let p = plain-parts (g .before) (flat (g .groups)) (subst (λ (x : List Tag). Plain x) (grouped-all isField ts) h) in
+    let p = plain-parts (g .before) (flat (g .groups)) (subst (λ (x : List Tag). Plain x) (grouped-all isFieldKey ts) h) in
     let c : (grouped (isHead 2) (tagsOf (drop k s))) .groups ≡ g .groups =
-    ap (λ (x : List Tag). (grouped (isHead 2) x) .groups) (w .rest) ∙ ap (λ (x : Groups). x .groups) (sym (grouped-agree (flat (g .groups)) (o .1))) ∙ regrouped isField ts in
+    ap (λ (x : List Tag). (grouped (isHead 2) x) .groups) (w .rest) ∙ ap (λ (x : Groups). x .groups) (sym (grouped-agree (flat (g .groups)) (o .1))) ∙ regrouped isFieldKey ts in
     record {
       fits = w .fits;
       first-size = length-take-le k s (w .fits);

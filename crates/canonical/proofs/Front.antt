@@ -15,7 +15,7 @@ use Rattle.standard.specs.Identifier.{Identifier, Three, three, und, part}
 use Rattle.standard.specs.Reading.{optional, split, root, find, coreOf, identifierOf, faultOf}
 use Rattle.standard.specs.Table.{languageKey}
 use Rattle.standard.proofs.Tags.{same-eq}
-use Rattle.standard.proofs.Bytes.{clash, bool-cases}
+use Rattle.standard.proofs.Bytes.{clash}
 use Rattle.subtag.specs.Bytes.{tidyByte, raised}
 use Rattle.subtag.specs.Subtags.{PlainTag}
 use Rattle.subtag.proofs.Walk.{le-or-lt}

@@ -1,7 +1,7 @@
 -- Sorting by subtags is sorting by their numbers. Assumes nothing.
 use mathlib.Core.Path.{_≡_, refl, ap, ap₂, _∙_}
 use mathlib.Core.List.{List, [], _∷_, map}
-use Prim.Native.Nat.{ℕ, _-_, compare, Ordering, Ordering·lt, Ordering·eq, Ordering·gt}
+use Prim.Native.Nat.{ℕ, compare, Ordering, Ordering·lt, Ordering·eq, Ordering·gt}
 use Rattle.standard.specs.Tag.{Tag, order, insertBy, sortBy, label}
 use Rattle.subtag.specs.Subtags.{keyOf, PlainTag}
 use Rattle.standard.proofs.Tags.{All, sort-all}

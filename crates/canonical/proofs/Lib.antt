@@ -25,4 +25,5 @@ pub mod Merged
 pub mod Counts
 pub mod Formed
 pub mod Outcomes
+pub mod Canonicalised
 pub mod Delivers

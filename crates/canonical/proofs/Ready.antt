@@ -3,11 +3,11 @@ use mathlib.Core.Path.{_≡_, refl, sym, ap, _∙_, subst}
 use mathlib.Core.Bool.{Bool, true, false, not, _&&_, _||_}
 use mathlib.Core.List.{List, [], _∷_, _++_, append-assoc}
 use mathlib.Core.Option.{none}
-use Prim.Native.Nat.{ℕ, _+_, _<_}
+use Prim.Native.Nat.{ℕ, _<_}
 use native.Mathlib.Omega.{arith}
 use lib.ListN.{length}
 use Rattle.standard.specs.Tag.{Tag, same, order}
-use Rattle.standard.specs.Grammar.{oneSize, wrongLength, sizeOf, aScript, aRegion, aVariant, kindOf, variantKind, isVariant, isSingleton, isTwo, isField, uTag, tTag, Groups, grouped, flat}
+use Rattle.standard.specs.Grammar.{oneSize, wrongLength, sizeOf, aScript, aRegion, aVariant, kindOf, variantKind, isVariant, isSingleton, isTwo, isFieldKey, uTag, tTag, Groups, grouped, flat}
 use Rattle.standard.specs.Identifier.{Identifier}
 use Rattle.standard.specs.Reading.{split, optional, afterFirst, wrongSize, wrongValue, alone, faultOf, identifierOf, readAs, read}
 use Rattle.standard.proofs.Tags.{All, same-eq}
@@ -84,7 +84,7 @@ part-ok (l ∷ ts) h = go (h .1)
 -- a field's key, or a subtag of its value
 value-ok : (t : Tag) → 1 < length t → wrongValue t ≡ false → keyOrValue t ≡ true
 unfolding wrongValue keyOrValue
-value-ok t h e = rw (← two-size t h) (go (isTwo t) (isField t) e)
+value-ok t h e = rw (← two-size t h) (go (isTwo t) (isFieldKey t) e)
   where
     go : (a b : Bool) → (a && not b) ≡ false → (not a || b) ≡ true
     go true true f = refl
@@ -104,8 +104,8 @@ longer-parts (x ∷ xs) ys h = longer-parts xs ys (h .1)
 fields-ok : (ts : List Tag) → Longer ts → Fields ts → FieldsOk ts
 unfolding FieldsOk
 fields-ok ts h f =
-    let g = grouped isField ts in
-    let k = longer-parts (g .before) (flat (g .groups)) (subst (λ (x : List Tag). Longer x) (grouped-all isField ts) h) in
+    let g = grouped isFieldKey ts in
+    let k = longer-parts (g .before) (flat (g .groups)) (subst (λ (x : List Tag). Longer x) (grouped-all isFieldKey ts) h) in
     let v = all-flat (λ (t : Tag). wrongValue t ≡ false) (g .groups) (all-impl (λ (x : List Tag). (alone x ≡ false) × Lacks wrongValue x) (Lacks wrongValue) (λ x p. p .1) (g .groups) (f .fields)) in
     (part-ok (g .before) (f .part), values-ok (flat (g .groups)) k v)
 

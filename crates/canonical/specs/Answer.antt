@@ -38,3 +38,8 @@ refusedTable (Bad number table place) = refusedAnswer number place table
 unfoldable pub madeOf : Outcome → Made
 madeOf (form f b) = result b 0
 madeOf (refusal n p) = refusalMade n p 0
+
+-- a refusal of canonicalising, with all of the lent output; a form is none
+unfoldable pub givenRefused : Outcome → List ℕ → Given
+givenRefused (form f b) out = record { number = 0; place = 0; table = 0; len = 0; steps = 0; output = out }
+givenRefused (refusal n p) out = record { number = n; place = p; table = 0; len = 0; steps = 0; output = out }

@@ -7,7 +7,7 @@ use Prim.Native.Nat.{ℕ, _+_, _<_}
 use lib.Dec.{leb, ltb, eqb}
 use lib.ListN.{length, drop}
 use Rattle.standard.specs.Tag.{Tag, same, sortBy, label}
-use Rattle.standard.specs.Grammar.{grouped, flat, dropTrue, tTag, arrange, variantKind, isField, isVariant}
+use Rattle.standard.specs.Grammar.{grouped, flat, dropTrue, tTag, arrange, variantKind, isFieldKey, isVariant}
 use Rattle.standard.specs.Reading.{split, afterFirst}
 use Rattle.subtag.specs.declared.Subtag.{Subtag}
 use Rattle.subtag.specs.Subtags.{subtagOf, PlainTag}
@@ -91,7 +91,7 @@ testOf Field t = fieldFrom t
 testOf Variant t = variantKind (kindFrom t)
 
 unfoldable pub tagTest : What → Tag → Bool
-tagTest Field t = isField t
+tagTest Field t = isFieldKey t
 tagTest Variant t = isVariant t
 
 -- where the first such subtag stands
@@ -109,10 +109,10 @@ unfoldable pub PartOk : List Tag → Type 0
 PartOk ts = everyTag isVariant (flat ((grouped isVariant (afterFirst ts)) .groups)) ≡ true
 
 unfoldable pub keyOrValue : Tag → Bool
-keyOrValue t = not (isHead 2 t) || isField t
+keyOrValue t = not (isHead 2 t) || isFieldKey t
 
 unfoldable pub FieldsOk : List Tag → Type 0
-FieldsOk ts = PartOk ((grouped isField ts) .before) × (everyTag keyOrValue (flat ((grouped isField ts) .groups)) ≡ true)
+FieldsOk ts = PartOk ((grouped isFieldKey ts) .before) × (everyTag keyOrValue (flat ((grouped isFieldKey ts) .groups)) ≡ true)
 
 -- what an accepted extension has: a singleton, subtags of two bytes or more, and in `t` the order above
 unfoldable pub Arrangeable : List Tag → Type 0

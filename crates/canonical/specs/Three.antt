@@ -5,10 +5,10 @@ use mathlib.Core.List.{List, [], _++_, map}
 use Prim.Native.Nat.{ℕ, _+_, _-_}
 use lib.Dec.{leb, ltb, eqb}
 use lib.ListN.{length, take, drop}
-use Rattle.standard.specs.Tag.{Tag, pick}
+use Rattle.standard.specs.Tag.{pick}
 use Rattle.standard.specs.Identifier.{Three, part, aliased}
 use Rattle.standard.specs.Reading.{split, identifierOf}
-use Rattle.standard.specs.Table.{lookup, rows, languageKey, scriptKey, regionKey, tablesOf}
+use Rattle.standard.specs.Table.{lookup, rows, languageKey, tablesOf}
 use Rattle.subtag.specs.Bytes.{tidyByte, raised}
 use Rattle.canonical.specs.declared.three.Ends.{Ends}
 use Rattle.canonical.specs.Alias.{replacedBy, aliasedPart}
@@ -37,15 +37,10 @@ scriptStart language script = cond (eqb language 0) 0 (afterSeparator language s
 unfoldable pub scriptEnd : ℕ → ℕ → ℕ
 scriptEnd e len = cond (leb (e + 5) len) (e + 5) e
 
--- the script with its separator: the one given, else the one in the value w, then through the aliases
-unfoldable pub scriptBytes : List ℕ → List ℕ → ℕ → ℕ → List ℕ → ℕ → ℕ → List ℕ
-scriptBytes A x language script w from to =
-    aliasedPart A scriptKey (pick (raised 1 (map tidyByte (between x (scriptStart language script) script))) (between w (afterSeparator from to) to))
-
--- the region likewise
-unfoldable pub regionBytes : List ℕ → List ℕ → ℕ → ℕ → List ℕ → ℕ → ℕ → List ℕ
-regionBytes A x script region w from to =
-    aliasedPart A regionKey (pick (raised 8 (map tidyByte (between x (afterSeparator script region) region))) (between w (afterSeparator from to) to))
+-- a subtag of a kind with its separator: the one given, else the one in the value w, then through the aliases
+unfoldable pub partBytes : List ℕ → List ℕ → ℕ → List ℕ → ℕ → ℕ → List ℕ → ℕ → ℕ → List ℕ
+partBytes A name count x start end w from to =
+    aliasedPart A name (pick (raised count (map tidyByte (between x start end))) (between w (afterSeparator from to) to))
 
 -- the key of the lookup of the identifier's language
 unfoldable pub languageLookup : List ℕ → List ℕ

@@ -1,4 +1,5 @@
 // One subtag through the alias table: the key of its lookup is the kind's name, a tab and the subtag in canonical case.
+use subtag::put;
 use subtag::put_raised;
 use table::hints::lookup_hinted;
 ghost use mathlib.Core.Path.{_≡_};
@@ -13,19 +14,6 @@ ghost use Rattle.standard.specs.Table.{lookup, rows};
 ghost use Rattle.table.specs.Hints.{Indexed};
 ghost use Rattle.canonical.specs.Section.{led};
 ghost use Rattle.canonical.specs.Alias.{replacedBy, aliasedPart};
-
-// Writes src at the place at, and gives the next place.
-pub fn put(src: &[u8], out: &mut [u8], at: usize) -> usize
-    requires { ⌜ at + length (now src) ≤ length (now out) ⌝ }
-    ensures { λ r. ⌜ (r ≡ at + length (now (src .entry))) × (now (out .exit) ≡ sets (now (out .entry)) at (now (src .entry))) ⌝ }
-{
-    let mut i = 0;
-    while i < src.len() {
-        out[at + i] = src[i];
-        i += 1;
-    }
-    at + i
-}
 
 // Writes the given subtag in its case, or where none is given the one that an alias brought in.
 fn put_first(given: &[u8], count: usize, brought: &[u8], out: &mut [u8], at: usize) -> usize

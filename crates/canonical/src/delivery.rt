@@ -1,6 +1,6 @@
 // Delivery into a lent output: 0 and the result at the front, or 10 where it is too short; a refusal writes nothing.
-use crate::alias::put;
 use crate::form::Canon;
+use subtag::put;
 use verdict::Verdict;
 ghost use mathlib.Core.Path.{_≡_};
 ghost use Rattle.standard.specs.Delivery.{result, given};

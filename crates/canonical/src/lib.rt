@@ -19,16 +19,16 @@ ghost use Rattle.standard.specs.Table.{tablesOf, check};
 ghost use Rattle.table.specs.Hints.{Hinted};
 ghost use Rattle.canonical.specs.Answer.{answerOf};
 
-pub mod alias;
+mod alias;
 pub mod buffer;
 pub mod delivery;
-pub mod extensions;
+mod extensions;
 pub mod form;
-pub mod heads;
-pub mod section;
-pub mod sorted;
-pub mod three;
-pub mod variants;
+mod heads;
+mod section;
+mod sorted;
+mod three;
+mod variants;
 
 // Canonicalises an identifier over aliases that passed the check.
 pub fn canonicalise_tested(id: &[u8], aliases: &[u8], hints: &[u16], out: &mut [u8]) -> Answer

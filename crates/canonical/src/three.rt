@@ -1,9 +1,9 @@
 // Language, script and region in canonical case, through the aliases, at the front of the canonical form.
-use crate::alias::put;
 use crate::alias::put_replaced;
 use crate::alias::write_aliased;
 use reader::Parts;
 use reader::Start;
+use subtag::put;
 use subtag::put_tidy;
 use table::end_of;
 ghost use mathlib.Core.Path.{_≡_};
@@ -16,7 +16,7 @@ ghost use Rattle.standard.specs.Table.{printThree};
 ghost use Rattle.reader.specs.Parts.{partsOf};
 ghost use Rattle.table.specs.Hints.{Indexed};
 ghost use Rattle.canonical.specs.Tested.{TestedWith};
-ghost use Rattle.canonical.specs.Three.{endsOf, languageLookup, languageWord, canonicalThree, afterSeparator, scriptStart, scriptEnd, scriptBytes, regionBytes};
+ghost use Rattle.canonical.specs.Three.{endsOf, languageLookup, languageWord, canonicalThree, afterSeparator, scriptStart, scriptEnd, partBytes};
 
 // Where language, script and region end; an absent one ends where the one before it does.
 pub struct Ends {
@@ -56,11 +56,14 @@ fn script_end(e: usize, len: usize) -> usize
     e
 }
 
-// Writes the script with its separator; w holds from `from` to `to` the one that the language's alias brought in.
-fn write_script(
+// Writes a script or a region with its separator: the one that id holds from start to end, its first count letters as
+// capitals, or the one that the value w of the language's alias holds from `from` to `to`; through the aliases of its kind.
+fn write_subtag(
     id: &[u8],
-    language: usize,
-    script: usize,
+    start: usize,
+    end: usize,
+    count: usize,
+    name: &[u8],
     w: &[u8],
     from: usize,
     to: usize,
@@ -69,46 +72,15 @@ fn write_script(
     out: &mut [u8],
     at: usize,
 ) -> usize
-    requires { ⌜ (language ≤ script) × (script ≤ length (now id)) × (script - scriptStart language script ≤ 8) × (from ≤ to) × (to ≤ length (now w)) × (to - afterSeparator from to ≤ 8) × Indexed (now aliases) (now hints) × (at + length (scriptBytes (now aliases) (now id) language script (now w) from to) ≤ length (now out)) ⌝ }
-    ensures { λ r. ⌜ (r ≡ at + length (scriptBytes (now (aliases .entry)) (now (id .entry)) language script (now (w .entry)) from to)) × (now (out .exit) ≡ sets (now (out .entry)) at (scriptBytes (now (aliases .entry)) (now (id .entry)) language script (now (w .entry)) from to)) ⌝ }
+    requires { ⌜ (start ≤ end) × (end ≤ length (now id)) × (end - start ≤ 8) × (length (now name) ≤ 9) × (from ≤ to) × (to ≤ length (now w)) × (to - afterSeparator from to ≤ 8) × Indexed (now aliases) (now hints) × (at + length (partBytes (now aliases) (now name) count (now id) start end (now w) from to) ≤ length (now out)) ⌝ }
+    ensures { λ r. ⌜ (r ≡ at + length (partBytes (now (aliases .entry)) (now (name .entry)) count (now (id .entry)) start end (now (w .entry)) from to)) × (now (out .exit) ≡ sets (now (out .entry)) at (partBytes (now (aliases .entry)) (now (name .entry)) count (now (id .entry)) start end (now (w .entry)) from to)) ⌝ }
 {
-    let g = script_start(language, script);
     let f = after_separator(from, to);
     write_aliased(
-        &id[g..script],
-        1,
+        &id[start..end],
+        count,
         &w[f..to],
-        b"script\t",
-        aliases,
-        hints,
-        out,
-        at,
-    )
-}
-
-// Writes the region likewise.
-fn write_region(
-    id: &[u8],
-    script: usize,
-    region: usize,
-    w: &[u8],
-    from: usize,
-    to: usize,
-    aliases: &[u8],
-    hints: &[u16],
-    out: &mut [u8],
-    at: usize,
-) -> usize
-    requires { ⌜ (script ≤ region) × (region ≤ length (now id)) × (region - afterSeparator script region ≤ 8) × (from ≤ to) × (to ≤ length (now w)) × (to - afterSeparator from to ≤ 8) × Indexed (now aliases) (now hints) × (at + length (regionBytes (now aliases) (now id) script region (now w) from to) ≤ length (now out)) ⌝ }
-    ensures { λ r. ⌜ (r ≡ at + length (regionBytes (now (aliases .entry)) (now (id .entry)) script region (now (w .entry)) from to)) × (now (out .exit) ≡ sets (now (out .entry)) at (regionBytes (now (aliases .entry)) (now (id .entry)) script region (now (w .entry)) from to)) ⌝ }
-{
-    let g = after_separator(script, region);
-    let f = after_separator(from, to);
-    write_aliased(
-        &id[g..region],
-        8,
-        &w[f..to],
-        b"region\t",
+        name,
         aliases,
         hints,
         out,
@@ -141,24 +113,26 @@ fn resolve_language(id: &[u8], p: Parts, aliases: &[u8], hints: &[u16], word: &m
     put_replaced(&key[..n], 9, aliases, hints, word, 0)
 }
 
-// Writes the three, with w the language's alias or the language.
+// Writes the three, with w the language's alias or the language; each part begins where the one before it ends.
 fn write_from(id: &[u8], p: Parts, w: &[u8], aliases: &[u8], hints: &[u16], out: &mut [u8]) -> Ends
     requires { ⌜ (faultOf (now id) ≡ none) × (p ≡ partsOf (split (now id))) × TestedWith (now aliases) (now hints) × (now w ≡ languageWord (now aliases) (now id)) × (17 ≤ length (now out)) ⌝ }
     ensures { λ r. ⌜ (r ≡ endsOf (canonicalThree (now (aliases .entry)) (now (id .entry)))) × (now (out .exit) ≡ sets (now (out .entry)) 0 (printThree (canonicalThree (now (aliases .entry)) (now (id .entry))))) ⌝ }
 {
-    let len = w.len();
+    let n = w.len();
     let e = end_of(w, 45, 0);
-    let s = script_end(e, len);
+    let s = script_end(e, n);
     let l = p.language;
     let m = p.script;
     let r = p.region;
-    let language = put(&w[..e], out, 0);
-    let script = write_script(id, l, m, w, e, s, aliases, hints, out, language);
-    let region = write_region(id, m, r, w, s, len, aliases, hints, out, script);
+    let g = script_start(l, m);
+    let h = after_separator(m, r);
+    let a = put(&w[..e], out, 0);
+    let b = write_subtag(id, g, m, 1, b"script\t", w, e, s, aliases, hints, out, a);
+    let c = write_subtag(id, h, r, 8, b"region\t", w, s, n, aliases, hints, out, b);
     Ends {
-        language,
-        script,
-        region,
+        language: a,
+        script: b,
+        region: c,
     }
 }
 

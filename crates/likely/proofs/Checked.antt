@@ -9,10 +9,7 @@ use Rattle.standard.specs.Make.{make, afterCheck, maximiseMade, minimiseMade}
 use Rattle.standard.proofs.Table.{check-less}
 use Rattle.standard.proofs.Whole.{aliases-only, narrow-likely}
 use Rattle.verdict.proofs.Ordered.{check-sorted}
-use Rattle.canonical.specs.declared.form.Canon.{Canon}
-use Rattle.canonical.specs.declared.form.Canon.the-variants.{Formed, Empty, TooLong, BadByte, BadSize, Misplaced, Repeated, Unfinished, Overlong}
-use Rattle.canonical.specs.Form.{outcomeOf}
-use Rattle.canonical.specs.Answer.{answerOf, refusedAnswer, refusedOf}
+use Rattle.canonical.specs.Answer.{answerOf, refusedAnswer}
 use Rattle.canonical.specs.declared.delivery.Answer.{Answer}
 use Rattle.canonical.proofs.Delivers.{tested}
 use Rattle.likely.specs.declared.forms.Outcome.{Outcome}
@@ -20,22 +17,10 @@ use Rattle.likely.specs.declared.forms.Outcome.the-variants.{Done, NoRow
 use Rattle.likely.specs.declared.tested.Answered.{Answered}
 use Rattle.likely.specs.declared.tested.Answered.the-variants.{Refused, Made}
 use Rattle.likely.specs.Forms.{givenBy}
-use Rattle.likely.specs.Answered.{givenRefused, givenAnswered}
+use Rattle.canonical.proofs.Canonicalised.{refused-answer}
+use Rattle.likely.specs.Answered.{givenAnswered}
 use Rattle.likely.specs.Both.{TestedBoth, operationOf}
 use Rattle.likely.specs.Whole.{outcomeAnswer, answerBy, wholeMade}
-
--- a refusal of canonicalising, as an answer
-pub refused-answer : (c : Canon) (out : Bytes) → answerOf (refusedOf c) out ≡ givenRefused (outcomeOf c []) out
-unfolding answerOf refusedOf refusedAnswer outcomeOf givenRefused
-refused-answer (Formed f) out = refl
-refused-answer Empty out = refl
-refused-answer TooLong out = refl
-refused-answer (BadByte at) out = refl
-refused-answer (BadSize at) out = refl
-refused-answer (Misplaced at) out = refl
-refused-answer (Repeated at) out = refl
-refused-answer (Unfinished at) out = refl
-refused-answer Overlong out = refl
 
 outcome-given : (o : Outcome) (out : Bytes) → answerOf (outcomeAnswer o) out ≡ givenBy o out
 unfolding answerOf outcomeAnswer refusedAnswer givenBy

@@ -1,15 +1,15 @@
 -- Laws of lengths and of delivery that the proofs of the functions cite. Assumes nothing.
 use mathlib.Core.Path.{_≡_, refl, sym, ap, ap₂, _∙_}
 use mathlib.Core.Bool.{Bool, true, false, cond}
-use mathlib.Core.List.{List, [], _∷_, _++_, append-assoc}
-use mathlib.Core.Option.{Option, none, some}
-use Prim.Native.Nat.{ℕ, zero, suc, _+_, _-_, _≤_, _<_}
+use mathlib.Core.List.{[], _∷_, _++_}
+use mathlib.Core.Option.{none, some}
+use Prim.Native.Nat.{ℕ, _+_, _-_, _≤_, _<_}
 use native.Mathlib.Omega.{arith}
 use borrow.Author.Tests.{le-leb, lt-leb}
 use lib.Dec.{leb, leb→le}
 use lib.ListN.{length, take, drop, length-append}
 use lib.Seq.{sets, sets-eq}
-use Rattle.standard.specs.Delivery.{Bytes, Made, result, refusal, form, Given, given}
+use Rattle.standard.specs.Delivery.{Bytes, Made, refusal, form, Given, given}
 use Rattle.standard.proofs.Bytes.{true→T, bool-cases}
 use Rattle.subtag.proofs.Stores.{sets-append}
 use Rattle.standard.specs.Tag.{pick}
@@ -18,9 +18,8 @@ use Rattle.likely.specs.declared.three.Kept.{Kept}
 use Rattle.likely.specs.declared.three.Kept.the-variants.{Neither, Region, Script, Both}
 use Rattle.likely.specs.Parts.{Parts, parts3, joinedParts, knownPart, knownParts, cutAt, cutParts, languageOf, overParts, filledBy, fillParts, minimalParts, Ready}
 use Rattle.likely.proofs.Lookups.{language-cut, script-cut, region-cut}
-use Rattle.likely.specs.declared.forms.Outcome.{Outcome}
 use Rattle.likely.specs.declared.forms.Outcome.the-variants.{Done, NoRow, Long, Short}
-use Rattle.likely.specs.Forms.{givenBy, lengthOr256, shortForm, bytesOf, madeForm, keptIf, madeOf, madeFilled, madeParts, ReadyFor}
+use Rattle.likely.specs.Forms.{givenBy, lengthOr256, shortForm, bytesOf, madeForm, keptIf, madeOf, madeFilled, madeParts}
 
 -- the length of a form, by its parts
 pub form-length : (l s r x : Bytes) → length (bytesOf (parts3 l s r) x) ≡ length l + length s + length r + length x

@@ -1,23 +1,25 @@
 -- From the canonical form in a buffer to what maximising and minimising make of it. Assumes nothing.
 use mathlib.Core.Path.{_≡_, refl, sym, ap, ap₂, _∙_, subst}
 use mathlib.Core.Bool.{Bool, true, false}
-use mathlib.Core.List.{List, [], _∷_, _++_, append-assoc}
+use mathlib.Core.List.{[], _∷_, _++_, append-assoc}
 use mathlib.Core.Option.{Option, none, some, Option·none-ne-some}
-use Prim.Native.Nat.{ℕ, zero, suc, _+_, _-_, _≤_}
+use Prim.Native.Nat.{ℕ, _+_, _-_}
 use native.Mathlib.Omega.{arith}
-use lib.ListN.{length, take, drop, length-append, take-append-drop}
+use lib.ListN.{length, take, drop, take-append-drop}
 use lib.Seq.{drop-drop, take-append-seam, drop-append-seam}
 use Rattle.standard.specs.Delivery.{Bytes, Made as MadeBytes, refusal, Given, given}
-use types.Run.{OneOf, miss}
+use types.Run.{OneOf}
 use denote.Enum.Declared.{tagOf}
 use Rattle.canonical.proofs.form.Canon.{the-type}
 use Rattle.canonical.specs.declared.form.Canon.{Canon}
 use Rattle.likely.specs.declared.tested.Answered.the-variants.{Refused, Made}
 use Rattle.likely.specs.declared.forms.Outcome.{Outcome}
-use Rattle.likely.specs.Answered.{givenRefused, givenAnswered}
-use Rattle.standard.specs.Calls.{canonicalise, maximise, minimise}
+use Rattle.canonical.specs.Answer.{givenRefused}
+use Rattle.canonical.proofs.Canonicalised.{Canonicalised, refusal-form, form-not, refusal-one}
+use Rattle.likely.specs.Answered.{givenAnswered}
+use Rattle.standard.specs.Calls.{canonicalise}
 use Rattle.standard.specs.Identifier.{Three, Identifier, Tables, Answer, done, refused, canonical, canonicalForm, maximised, minimised, then, maximalThree, withoutUnknown, trial, withThree, part, size}
-use Rattle.standard.specs.Reading.{Read, good, bad, read, print}
+use Rattle.standard.specs.Reading.{Read, good, bad, read}
 use Rattle.standard.specs.Table.{tablesOf, check}
 use Rattle.standard.specs.Make.{operate, made, makeOf, make}
 use Rattle.standard.proofs.Sound.{read-raw}
@@ -30,8 +32,7 @@ use Rattle.standard.proofs.Table.{Passed, passed, good-tables, shaped-tables}
 use Rattle.standard.proofs.Whole.{same-canonical, narrow-likely}
 use Rattle.table.specs.Hints.{Indexed}
 use Rattle.canonical.specs.declared.form.Form.{Form}
-use Rattle.canonical.specs.declared.form.Canon.the-variants.{Formed, Empty, TooLong, BadByte, BadSize, Misplaced, Repeated, Unfinished, Overlong}
-use Rattle.canonical.specs.Form.{form as formed-as, refusal as refused-as, formOf, formed, canonicalOf, outcomeOf, outcome, FormFits}
+use Rattle.canonical.specs.Form.{refusal as refused-as, formOf, formed, canonicalOf, outcomeOf, outcome}
 use Rattle.likely.specs.Parts.{ledPart, Parts, parts3, partsOf, joinedParts, fillParts, Ready}
 use Rattle.likely.specs.Forms.{givenBy, bytesOf, madeParts, ReadyFor}
 use Rattle.likely.specs.Both.{operationOf}
@@ -63,21 +64,6 @@ slices buf a b c d l s r n el es er en e =
       fourth = ap₂ take k₃ d₃ ∙ take-append-seam d y;
     }
 
--- What a form in a buffer stands for.
-pub record Canonicalised (A x : Bytes) (f : Form) (buf : Bytes) : Type 0 where
-  pub input : Identifier
-  pub form : Identifier
-  pub reads : read x ≡ good input
-  pub does : canonical (tablesOf A [] []) input ≡ done form
-  pub ends : f ≡ formOf form
-  pub bytes : take (f .len) buf ≡ print form
-
-form-one : {f g : Form} {x y : Bytes} → formed-as f x ≡ formed-as g y → (f ≡ g) × (x ≡ y)
-form-one e = (cc, cc)
-
-pub form-not : {f : Form} {x : Bytes} {n p : ℕ} {P : Type 0} → formed-as f x ≡ refused-as n p → P
-form-not e = let z : _≡_ {A = ℕ} 0 1 = cc in absurd (omega arith)
-
 some-one : {p q : Parts} → _≡_ {A = Option Parts} (some p) (some q) → p ≡ q
 some-one e = cc
 
@@ -85,18 +71,6 @@ led-size : (t : Tag) → length (ledPart t) ≡ part t
 unfolding ledPart part
 led-size [] = refl
 led-size (b ∷ bs) = refl
-
-pub canonicalised : (A x : Bytes) (f : Form) (buf : Bytes) → outcomeOf (Formed f) buf ≡ outcome A x → Canonicalised A x f buf
-unfolding outcomeOf outcome canonicalOf formed
-canonicalised A x f buf e = go (read x) refl e
-  where
-    by : (i : Identifier) → read x ≡ good i → (a : Answer) → canonical (tablesOf A [] []) i ≡ a → formed-as f (take (f .len) buf) ≡ formed a → Canonicalised A x f buf
-    by i r (refused n) q k = form-not k
-    by i r (done c) q k = let z = form-one k in record { input = i; form = c; reads = r; does = q; ends = z .0; bytes = z .1 }
-
-    go : (a : Read) → read x ≡ a → formed-as f (take (f .len) buf) ≡ canonicalOf (tablesOf A [] []) a → Canonicalised A x f buf
-    go (bad n p) r k = form-not k
-    go (good i) r k = by i r (canonical (tablesOf A [] []) i) refl k
 
 module _ (A L : Bytes) (pass : check true false A L [] ≡ none) (hints : Bytes) (indexed : Indexed L hints) (x : Bytes) (f : Form) (buf : Bytes) (w : Canonicalised A x f buf) where
   abbrev T : Tables
@@ -177,16 +151,6 @@ module _ (A L : Bytes) (pass : check true false A L [] ≡ none) (hints : Bytes)
   unfolding partsOf bytesOf joinedParts
   cuts = slices buf _ _ _ _ (f .language) (f .script) (f .region) (f .len) (sizes .language) (sizes .script) (sizes .region) (sizes .len) (w .bytes ∙ print-rest c)
 
--- where the parts end, one behind the other
-pub in-order : (f : Form) (i : Identifier) → f ≡ formOf i → (f .language ≤ f .script) × (f .script ≤ f .region) × (f .region ≤ f .len)
-unfolding formOf size
-in-order f i e =
-    let a = ap (λ (g : Form). g .language) e in
-    let b = ap (λ (g : Form). g .script) e in
-    let c = ap (λ (g : Form). g .region) e in
-    let d = ap (λ (g : Form). g .len) e in
-    (omega (arith, a, b), omega (arith, b, c), omega (arith, c, d))
-
 pub by-slices : (b : Bool) (L hints : Bytes) (p : Parts) (rest l s r d : Bytes) (G : Given) (out : Bytes) → l ≡ p .language → s ≡ p .script → r ≡ p .region → d ≡ rest
     → (ReadyFor L hints (parts3 l s r) → G ≡ given (madeParts b L d (parts3 l s r)) out) → ReadyFor L hints p → G ≡ given (madeParts b L rest p) out
 by-slices b L hints p rest l s r d G out el es er ed h k =
@@ -194,21 +158,6 @@ by-slices b L hints p rest l s r d G out el es er ed h k =
     h (subst (ReadyFor L hints) (sym e) k) ∙ ap₂ (λ (x : Bytes) (q : Parts). given (madeParts b L x q) out) ed e
 
 -- A refusal of canonicalising stands.
-pub refusal-form : (c : Canon) (buf : Bytes) → OneOf (1 ∷ 2 ∷ 3 ∷ 4 ∷ 5 ∷ 6 ∷ 7 ∷ 8 ∷ []) (tagOf the-type c) → (n : ℕ) × (p : ℕ) × (outcomeOf c [] ≡ refused-as n p) × (outcomeOf c buf ≡ refused-as n p)
-unfolding outcomeOf
-refusal-form (Formed f) buf k = absurd (miss (1 ∷ 2 ∷ 3 ∷ 4 ∷ 5 ∷ 6 ∷ 7 ∷ 8 ∷ []) 0 tt k)
-refusal-form Empty buf k = (1, 0, refl, refl)
-refusal-form TooLong buf k = (2, 0, refl, refl)
-refusal-form (BadByte at) buf k = (3, at, refl, refl)
-refusal-form (BadSize at) buf k = (4, at, refl, refl)
-refusal-form (Misplaced at) buf k = (5, at, refl, refl)
-refusal-form (Repeated at) buf k = (6, at, refl, refl)
-refusal-form (Unfinished at) buf k = (7, at, refl, refl)
-refusal-form Overlong buf k = (9, 0, refl, refl)
-
-pub refusal-one : {m n p q : ℕ} → refused-as m p ≡ refused-as n q → (m ≡ n) × (p ≡ q)
-refusal-one e = (cc, cc)
-
 pub refused-made : (A L x : Bytes) (b : Bool) (n p : ℕ) → outcome A x ≡ refused-as n p → make (tablesOf A L []) (operationOf b) x ≡ refusal n p 0
 unfolding outcome canonicalOf formed make makeOf made operate operationOf maximised minimised then
 refused-made A L x b n p e = go (read x) e
@@ -234,14 +183,6 @@ unfolding givenAnswered givenRefused given
 refusal-stands A L x b c buf out e k =
     let r = refusal-form c buf k in
     rw (r .2, refused-made A L x b (r .0) (r .1) (sym e ∙ r .3))
-
--- the form that the code has in hand
-pub formed-by : (A x buf : Bytes) {c : Canon} {f : Form} → c ≡ Formed f → outcomeOf c buf ≡ outcome A x → outcomeOf (Formed f) buf ≡ outcome A x
-formed-by A x buf e h = subst (λ (q : Canon). outcomeOf q buf ≡ outcome A x) e h
-
-pub fits-by : {c : Canon} {f : Form} → c ≡ Formed f → FormFits c → f .len ≤ 255
-unfolding FormFits
-fits-by e h = subst FormFits e h
 
 pub made-answer : (A L : Bytes) (pass : check true false A L [] ≡ none) (hints : Bytes) (indexed : Indexed L hints) (x : Bytes) (f : Form) (buf : Bytes) (w : Canonicalised A x f buf) (b : Bool) (o : Outcome) (out out′ : Bytes)
     → ((p : Parts) → (rest : Bytes) → Slices buf (p .language) (p .script) (p .region) rest (f .language) (f .script) (f .region) (f .len) → ReadyFor L hints p → givenBy o out′ ≡ given (madeParts b L rest p) out)

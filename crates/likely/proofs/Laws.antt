@@ -1,28 +1,25 @@
 -- The parts of the three stand for the three: what is done with parts is what the definitions do. Assumes nothing.
-use mathlib.Core.Path.{_≡_, refl, sym, ap, _∙_, subst}
-use mathlib.Core.Bool.{Bool, true, false, cond, not, _&&_, _||_, and-false}
-use mathlib.Core.Logic.{_⊎_, inl, inr}
-use mathlib.Core.List.{List, [], _∷_, _++_, append-nil, append-assoc}
+use mathlib.Core.Path.{_≡_, refl, sym, ap, _∙_}
+use mathlib.Core.Bool.{Bool, true, false, cond, not, _&&_, and-false}
+use mathlib.Core.List.{[], _∷_, _++_, append-nil}
 use mathlib.Core.Option.{Option, none, some}
-use Prim.Native.Nat.{ℕ, zero, suc, _+_, _-_, _≤_}
+use Prim.Native.Nat.{ℕ, _+_, _-_}
 use native.Mathlib.Omega.{arith}
-use lib.Dec.{isEq, eqb}
-use lib.ListN.{length, take, drop, length-append}
+use lib.ListN.{length, drop}
 use lib.Seq.{drop-drop, take-append-seam, drop-append-seam}
 use Rattle.standard.specs.Tag.{Tag, order, same, pick, present, replace}
-use Rattle.standard.specs.Identifier.{Three, three, und, zzzz, zz, Tables, without, withoutUnknown, complete, orElse, row, over, overRow, maximalThree, trial, sameThree, hasThree, minimalThree, Kept, Good}
+use Rattle.standard.specs.Identifier.{Three, three, und, zzzz, zz, Tables, without, withoutUnknown, complete, orElse, row, over, overRow, maximalThree, trial, sameThree, hasThree, minimalThree, Kept}
 use Rattle.standard.specs.Reading.{optional, joined}
 use Rattle.standard.specs.Delivery.{Bytes}
 use Rattle.standard.specs.Table.{lookup, rows, parse, parsed, printThree, tablesOf, isThree}
-use Rattle.standard.specs.Grammar.{separator, title, upper, aScript, aRegion}
+use Rattle.standard.specs.Grammar.{title, upper, aScript}
 use Rattle.standard.specs.Table.{check}
 use Rattle.standard.proofs.Tags.{same-refl}
 use Rattle.standard.proofs.Core.{Full, kept-fixed}
 use Rattle.standard.proofs.Dashes.{NoDash, printed-dash}
 use Rattle.standard.proofs.Bytes.{clash, and-true, bool-cases}
-use Rattle.standard.proofs.Split.{Printed, no-byte, byte}
-use Rattle.standard.proofs.Shapes.{printed-language, printed-script, printed-region}
-use Rattle.standard.proofs.Round.{Shown, Shaped, printed-shown}
+use Rattle.standard.proofs.Shapes.{printed-language, printed-script}
+use Rattle.standard.proofs.Round.{printed-shown}
 use Rattle.standard.proofs.Table.{Passed, passed, three-shaped, three-printed, likely-value}
 use Rattle.likely.specs.Parts.{ledPart, Parts, partsOf, joinedParts, knownPart, knownParts, completeParts, orValue, shorterValue, rowValue, dashFrom, dash, cutParts, languageOf, overParts, overValue, fillParts, fitsValue, fitsParts, parts3, minimalParts}
 

@@ -1,29 +1,29 @@
 -- What is made by parts is what the standard makes of a canonical identifier. Assumes nothing.
-use mathlib.Core.Path.{_≡_, refl, sym, ap, ap₂, _∙_, subst}
+use mathlib.Core.Path.{_≡_, refl, sym, ap, ap₂, _∙_}
 use mathlib.Core.Bool.{Bool, true, false, cond}
 use mathlib.Core.Logic.{_⊎_, inl, inr}
-use mathlib.Core.List.{List, [], _∷_, _++_, append-nil, append-assoc}
+use mathlib.Core.List.{[], _∷_, _++_, append-nil, append-assoc}
 use mathlib.Core.Option.{Option, none, some}
-use Prim.Native.Nat.{ℕ, zero, suc, _+_, _≤_}
+use Prim.Native.Nat.{ℕ, suc, _+_, _≤_}
 use native.Mathlib.Omega.{arith}
 use lib.Dec.{leb}
-use lib.ListN.{length, length-append}
+use lib.ListN.{length}
 use Rattle.standard.specs.Tag.{Tag}
-use Rattle.standard.specs.Grammar.{Size, sizeOf, isLanguage, languageSize, Kind, aScript, aRegion, aVariant, aNone, kind, kindOf, flat, title, upper, every, small, digit, startsWithDigit}
+use Rattle.standard.specs.Grammar.{sizeOf, isLanguage, languageSize, Kind, aScript, aRegion, aVariant, aNone, kind, kindOf, flat, title, upper}
 use Rattle.standard.specs.Identifier.{Three, Identifier, Tables, Answer, done, refused, bounded, size, withThree, filled, then, maximalThree, minimalThree, withoutUnknown}
-use Rattle.standard.specs.Reading.{optional, rest, tags, joined, print}
-use Rattle.standard.specs.Delivery.{Bytes, Made, result, refusal, form}
+use Rattle.standard.specs.Reading.{optional, print}
+use Rattle.standard.specs.Delivery.{Bytes, refusal, form}
 use Rattle.standard.specs.Table.{tablesOf, check}
 use Rattle.standard.specs.Make.{made}
-use Rattle.standard.proofs.Bytes.{clash, and-true}
+use Rattle.standard.proofs.Bytes.{clash}
 use Rattle.standard.proofs.Faults.{Maybe}
 use Rattle.standard.proofs.Round.{Shown, Shaped, Printable, length-print}
 use Rattle.standard.proofs.Core.{Full}
 use Rattle.canonical.specs.Section.{led}
 use Rattle.canonical.proofs.Print.{print-led}
-use Rattle.likely.specs.Parts.{ledPart, Parts, partsOf, joinedParts, knownPart, knownParts, fillParts, minimalParts}
+use Rattle.likely.specs.Parts.{ledPart, Parts, partsOf, joinedParts, knownParts, fillParts}
 use Rattle.likely.specs.Forms.{shortForm, bytesOf, keptIf, madeOf, madeFilled, madeParts}
-use Rattle.likely.proofs.Laws.{print-parts, known-parts, mapParts, fill-parts, minimal-parts}
+use Rattle.likely.proofs.Laws.{known-parts, mapParts, fill-parts, minimal-parts}
 
 -- what stands behind the three
 unfoldable pub restOf : Identifier → Bytes

@@ -1,13 +1,13 @@
 -- The maximised or minimised form, by the parts of the canonical form: its three, and the rest as it stands. Assumes
 -- nothing.
 use mathlib.Core.Path.{_≡_}
-use mathlib.Core.Bool.{Bool, true, false, cond}
-use mathlib.Core.List.{List, [], _∷_, _++_}
+use mathlib.Core.Bool.{Bool, cond}
+use mathlib.Core.List.{_++_}
 use mathlib.Core.Option.{Option, none, some}
 use Prim.Native.Nat.{ℕ}
 use lib.Dec.{leb}
 use lib.ListN.{length}
-use Rattle.standard.specs.Delivery.{Bytes, Made, result, refusal, form, Given}
+use Rattle.standard.specs.Delivery.{Bytes, Made, refusal, form, Given}
 use Rattle.likely.specs.Parts.{Parts, joinedParts, knownParts, fillParts, minimalParts, Ready}
 use Rattle.likely.specs.declared.forms.Outcome.{Outcome}
 use Rattle.likely.specs.declared.forms.Outcome.the-variants.{Done, NoRow, Long, Short}

@@ -1,13 +1,13 @@
 -- Language, script and region as parts of bytes: script and region each with its separator in front, empty where absent.
 -- So a key of the likely table is its parts, one after the other. Assumes nothing.
 use mathlib.Core.Bool.{Bool, true, false, cond, not, _&&_}
-use mathlib.Core.List.{List, [], _∷_, _++_}
+use mathlib.Core.List.{[], _∷_, _++_}
 use mathlib.Core.Option.{Option, none, some}
 use Prim.Native.Nat.{ℕ, _+_, _-_, _≤_}
 use lib.Dec.{eqb}
 use lib.ListN.{length, drop, take}
 use Rattle.standard.specs.Tag.{Tag, same, present, pick}
-use Rattle.standard.specs.Identifier.{Three, three, und}
+use Rattle.standard.specs.Identifier.{Three, und}
 use Rattle.standard.specs.Delivery.{Bytes}
 use Rattle.standard.specs.Table.{lookup, rows}
 use Rattle.table.specs.Hints.{Indexed}

@@ -2,8 +2,6 @@
 // absent. A key of the likely table is its parts, one after the other.
 ghost use mathlib.Core.Path.{_≡_};
 ghost use Rattle.standard.specs.Tag.{same, pick};
-ghost use Rattle.standard.specs.Identifier.{und};
-ghost use mathlib.Core.Bool.{cond, not};
 ghost use Rattle.likely.specs.Parts.{knownPart, dash, completeParts, languageOf};
 
 // The part, or none where it is this unknown one.

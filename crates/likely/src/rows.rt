@@ -1,7 +1,7 @@
 // Rows of a likely table that passed the check, found by parts of the three subtags.
-use canonical::alias::put;
+use subtag::put;
 ghost use mathlib.Core.Path.{_≡_};
-ghost use mathlib.Core.List.{[], _∷_, _++_};
+ghost use mathlib.Core.List.{_++_};
 ghost use Prim.Native.Nat.{_+_, _≤_};
 ghost use lib.ListN.{length};
 ghost use Rattle.standard.specs.Table.{lookup, rows};

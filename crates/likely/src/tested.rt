@@ -1,13 +1,13 @@
 // Maximising and minimising over tables that were tested. The public operations and the programs come through here.
 use crate::forms::Outcome;
 use crate::forms::form_by_parts;
+use canonical::buffer::buffer;
 use canonical::form::Canon;
 use canonical::form::Form;
 use canonical::form::canonical_form;
 ghost use mathlib.Core.Path.{_≡_};
 ghost use mathlib.Core.List.{List, []};
 ghost use Prim.Native.Nat.{ℕ, _≤_};
-ghost use mathlib.Core.Option.{none};
 ghost use lib.ListN.{length};
 ghost use Rattle.standard.specs.Delivery.{given};
 ghost use Rattle.standard.specs.Table.{tablesOf};
@@ -23,13 +23,6 @@ ghost use Rattle.likely.specs.Both.{TestedBoth, operationOf};
 pub enum Answered {
     Refused(Canon),
     Made(Outcome),
-}
-
-// A buffer for the canonical form.
-fn blank() -> [u8; 512]
-    ensures { λ r. ⌜ length r ≡ 512 ⌝ }
-{
-    [0u8; 512]
 }
 
 // The maximised or minimised form of the canonical form in buf.
@@ -75,7 +68,7 @@ pub fn form_hinted(
     requires { ⌜ TestedBoth (now aliases) (now likely) × Hinted (now aliases) (now «alias_hints») × Hinted (now likely) (now «likely_hints») ⌝ }
     ensures { λ r. ⌜ givenAnswered r (now (out .exit)) ≡ given (make (tablesOf (now (aliases .entry)) (now (likely .entry)) []) (operationOf shorten) (now (id .entry))) (now (out .entry)) ⌝ }
 {
-    let mut buf = blank();
+    let mut buf = buffer();
     let c = canonical_form(id, aliases, alias_hints, &mut buf);
     let Canon::Formed(f) = c else {
         return Answered::Refused(c);

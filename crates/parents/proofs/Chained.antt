@@ -1,9 +1,9 @@
 -- From the canonical form in a buffer to the listing of its chain. Assumes nothing.
 use mathlib.Core.Path.{_≡_, refl, sym, ap, ap₂, _∙_, subst}
-use mathlib.Core.Bool.{Bool, true, false, cond}
-use mathlib.Core.List.{List, [], _∷_, _++_, map, append-nil, append-assoc}
-use mathlib.Core.Option.{Option, none, some}
-use Prim.Native.Nat.{ℕ, zero, suc, _+_, _-_, _≤_}
+use mathlib.Core.Bool.{Bool, true, false}
+use mathlib.Core.List.{List, [], _∷_, _++_, append-nil, append-assoc}
+use mathlib.Core.Option.{none}
+use Prim.Native.Nat.{ℕ, _+_, _≤_}
 use native.Mathlib.Omega.{arith}
 use types.Run.{OneOf}
 use denote.Enum.Declared.{tagOf}
@@ -12,29 +12,27 @@ use lib.ListN.{length, take, drop, length-append}
 use lib.Seq.{sets, sets-eq, take-take, take-append-seam}
 use Rattle.standard.specs.Tag.{Tag}
 use Rattle.standard.specs.Grammar.{flat}
-use Rattle.standard.specs.Delivery.{Bytes, Made, refusal, Given, given}
+use Rattle.standard.specs.Delivery.{Bytes, Made, refusal, given}
 use Rattle.standard.specs.Calls.{canonicalise}
-use Rattle.standard.specs.Identifier.{Three, Identifier, Tables, Answer, done, refused, canonical, part, parts, size}
+use Rattle.standard.specs.Identifier.{Identifier, Tables, Answer, done, refused, canonical, part, parts, size}
 use Rattle.standard.specs.Reading.{Read, good, bad, read, print, optional}
-use Rattle.standard.specs.Chain.{Line, line, chain}
+use Rattle.standard.specs.Chain.{line}
 use Rattle.standard.specs.Table.{tablesOf, check}
 use Rattle.standard.specs.Make.{operate, identifier, printLine, listing, chainOf, listed, chainMade, chainFrom}
 use Rattle.standard.proofs.Bytes.{true→T}
 use Rattle.standard.proofs.Sound.{read-raw}
-use Rattle.standard.proofs.Round.{Printable, length-print}
 use Rattle.standard.proofs.Demand.{printable-of}
 use Rattle.standard.proofs.Lines.{Plain}
-use Rattle.standard.proofs.Table.{Passed, passed, good-tables, shaped-tables}
+use Rattle.standard.proofs.Table.{passed, good-tables, shaped-tables}
 use Rattle.standard.proofs.Whole.{same-canonical, narrow-parents}
-use Rattle.table.specs.Search.{Sorted}
 use Rattle.canonical.proofs.form.Canon.{the-type}
 use Rattle.canonical.specs.declared.form.Form.{Form}
 use Rattle.canonical.specs.declared.form.Canon.{Canon}
 use Rattle.canonical.specs.Section.{led}
 use Rattle.canonical.specs.Form.{refusal as refused-as, formOf, formed, canonicalOf, outcomeOf, outcome}
 use Rattle.canonical.proofs.Print.{print-led}
-use Rattle.likely.specs.Answered.{givenRefused}
-use Rattle.likely.proofs.Formed.{Canonicalised, refusal-form, refusal-one, form-not}
+use Rattle.canonical.specs.Answer.{givenRefused}
+use Rattle.canonical.proofs.Canonicalised.{Canonicalised, refusal-form, refusal-one, form-not}
 use Rattle.parents.specs.declared.lines.Listed.{Listed}
 use Rattle.parents.specs.declared.tested.Answered.the-variants.{Refused, Lines}
 use Rattle.parents.specs.Texts.{chainText}

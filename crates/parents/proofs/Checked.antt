@@ -2,22 +2,22 @@
 use mathlib.Core.Path.{_≡_, refl, ap, _∙_, sym}
 use mathlib.Core.Bool.{Bool, true, false}
 use mathlib.Core.List.{[]}
-use mathlib.Core.Option.{Option, none, some, Option·some-ne-none}
+use mathlib.Core.Option.{Option, none, Option·some-ne-none}
 use Prim.Native.Nat.{ℕ, _≤_}
 use lib.Dec.{leb, leb→le}
 use lib.ListN.{length}
 use Rattle.standard.specs.Delivery.{Bytes, Made, given}
 use Rattle.standard.specs.Reading.{fault, read}
-use Rattle.standard.specs.Table.{TableFault, tooBig, inTable, firstTable, tablesOf, check}
+use Rattle.standard.specs.Table.{TableFault, tooBig, inTable, tablesOf, check}
 use Rattle.standard.specs.Make.{chainFrom, afterCheck, listMade}
 use Rattle.standard.proofs.Bytes.{true→T}
-use Rattle.standard.proofs.Table.{check-less}
+use Rattle.standard.proofs.Table.{firstTable-none, check-less}
 use Rattle.standard.proofs.Whole.{aliases-only, narrow-parents}
 use Rattle.verdict.proofs.Ordered.{check-sorted}
 use Rattle.canonical.specs.Answer.{answerOf, refusedAnswer}
 use Rattle.canonical.specs.declared.delivery.Answer.{Answer}
 use Rattle.canonical.proofs.Delivers.{tested}
-use Rattle.likely.proofs.Checked.{refused-answer}
+use Rattle.canonical.proofs.Canonicalised.{refused-answer}
 use Rattle.parents.specs.declared.lines.Listed.{Listed}
 use Rattle.parents.specs.declared.tested.Answered.{Answered}
 use Rattle.parents.specs.declared.tested.Answered.the-variants.{Refused, Lines}
@@ -46,11 +46,6 @@ answer-given (Refused c) out = refused-answer c out
 answer-given (Lines l) out = listed-given l out
 
 -- a table that passes is not too long
-after : (a b : Option TableFault) → firstTable a b ≡ none → (a ≡ none) × (b ≡ none)
-unfolding firstTable
-after none b e = (refl, e)
-after (some f) b e = absurd (Option·some-ne-none _ e)
-
 not-big : (n : ℕ) (x : Bytes) → inTable true n (tooBig x) ≡ none → length x ≤ 32768
 unfolding inTable tooBig
 not-big n x e = go (leb (length x) 32768) refl e
@@ -61,7 +56,7 @@ not-big n x e = go (leb (length x) 32768) refl e
 
 parents-small : (A P : Bytes) → check false true A [] P ≡ none → length P ≤ 32768
 unfolding check
-parents-small A P e = not-big 3 P (after _ _ (after _ _ (after _ _ e .1) .1) .0)
+parents-small A P e = not-big 3 P (firstTable-none _ _ (firstTable-none _ _ (firstTable-none _ _ e .1) .1) .0)
 
 -- tables that pass are as the inner operation asks
 pub tested-chain : (A P : Bytes) → check false true A [] P ≡ none → TestedChain A P

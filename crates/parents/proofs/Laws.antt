@@ -1,30 +1,30 @@
 -- The chain by bytes is the chain of the definitions. Assumes nothing.
-use mathlib.Core.Path.{_≡_, refl, sym, ap, ap₂, _∙_, subst}
-use mathlib.Core.Bool.{Bool, true, false, _||_}
+use mathlib.Core.Path.{_≡_, refl, sym, ap, _∙_, subst}
+use mathlib.Core.Bool.{Bool, true, false}
 use mathlib.Core.List.{List, [], _∷_, _++_, map, append-nil, append-assoc}
 use mathlib.Core.Option.{Option, none, some}
 use Prim.Native.Nat.{ℕ, zero, suc, _+_, _-_, _≤_, _<_}
 use native.Mathlib.Omega.{arith}
 use native.Mathlib.Nat.{zero-add, suc-add}
-use borrow.Author.Tests.{lt-ltb, le-ltb, eq-eqb, ne-eqb}
+use borrow.Author.Tests.{lt-ltb, le-ltb, eq-eqb}
 use lib.Dec.{eqb, ltb}
 use lib.ListN.{length, getD, take, length-append}
 use lib.Seq.{take-append-seam, getD-append-seam}
 use Rattle.standard.specs.Tag.{Tag, order, same, present}
-use Rattle.standard.specs.Grammar.{flat, separator, title, upper, aScript, aRegion, isLanguage, languageSize, sizeOf, every, small}
-use Rattle.standard.specs.Identifier.{Three, three, und, Tables, Identifier}
+use Rattle.standard.specs.Grammar.{flat, title, upper, aScript, aRegion, isLanguage, languageSize, sizeOf, every, small}
+use Rattle.standard.specs.Identifier.{Three, three, und, Tables}
 use Rattle.standard.specs.Reading.{optional, rest, tags, joined, print}
 use Rattle.standard.specs.Delivery.{Bytes}
 use Rattle.standard.specs.Chain.{Line, line, allButLast, shorter, parentOf, parent, isRoot, chain}
-use Rattle.standard.specs.Table.{lookup, rows, parse, parsed, printThree, tablesOf, check, isThree}
+use Rattle.standard.specs.Table.{lookup, rows, parse, parsed, printThree, tablesOf, check}
 use Rattle.standard.specs.Make.{identifier, printLine}
 use Rattle.standard.proofs.Tags.{All, Ascending, same-eq}
 use Rattle.standard.proofs.Faults.{Variants}
 use Rattle.standard.proofs.Sound.{shown-none}
 use Rattle.standard.proofs.Dashes.{NoDash, printed-dash}
-use Rattle.standard.proofs.Bytes.{clash, bool-cases, and-true}
-use Rattle.standard.proofs.Split.{Printed, no-byte, byte, AllPrinted, no-tag, tag}
-use Rattle.standard.proofs.Round.{Shaped, all-printed, language-printed}
+use Rattle.standard.proofs.Bytes.{clash, bool-cases}
+use Rattle.standard.proofs.Split.{AllPrinted, no-tag, tag}
+use Rattle.standard.proofs.Round.{all-printed, language-printed}
 use Rattle.standard.proofs.Lines.{Plain, plain-printable, parent-plain, print-injective}
 use Rattle.standard.proofs.Listing.{root-printed}
 use Rattle.standard.proofs.Table.{Passed, passed, three-printed, parent-value, parents-shaped}

@@ -1,16 +1,16 @@
 -- What the chain over tested tables gives: document 01's numbers for each case of the answer. Assumes nothing.
 use mathlib.Core.Path.{_≡_}
-use mathlib.Core.Bool.{Bool, true, false, cond}
-use mathlib.Core.List.{List, []}
+use mathlib.Core.Bool.{true, false, cond}
+use mathlib.Core.List.{[]}
 use mathlib.Core.Option.{none}
-use Prim.Native.Nat.{ℕ, _≤_}
+use Prim.Native.Nat.{_≤_}
 use lib.ListN.{length}
 use Rattle.standard.specs.Delivery.{Bytes, Given}
 use Rattle.standard.specs.Table.{check}
 use Rattle.table.specs.Search.{Sorted}
 use Rattle.canonical.specs.Form.{outcomeOf}
 use Rattle.canonical.specs.Tested.{Tested}
-use Rattle.likely.specs.Answered.{givenRefused}
+use Rattle.canonical.specs.Answer.{givenRefused}
 use Rattle.parents.specs.declared.lines.Listed.{Listed}
 use Rattle.parents.specs.declared.tested.Answered.{Answered}
 use Rattle.parents.specs.declared.tested.Answered.the-variants.{Refused, Lines}

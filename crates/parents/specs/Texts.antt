@@ -1,6 +1,6 @@
 -- The chain of parents by the bytes of its lines: a parent is a row's value, or what stands before the last `-`, or
 -- `und`. Assumes nothing.
-use mathlib.Core.Bool.{Bool, true, false}
+use mathlib.Core.Bool.{true, false}
 use mathlib.Core.List.{List, [], _∷_}
 use mathlib.Core.Option.{Option, none, some}
 use Prim.Native.Nat.{ℕ, zero, suc, _-_}

@@ -1,4 +1,4 @@
 // The chain of parents: an identifier without extensions, its parent, and so on to `und`, one a line.
-pub mod lines;
+mod lines;
 pub mod tested;
 pub mod whole;

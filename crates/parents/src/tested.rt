@@ -1,14 +1,13 @@
 // The chain of parents over tables that were tested. The public operation and the programs come through here.
 use crate::lines::Listed;
 use crate::lines::list;
+use canonical::buffer::buffer;
 use canonical::form::Canon;
 use canonical::form::Form;
 use canonical::form::canonical_form;
 ghost use mathlib.Core.Path.{_≡_};
-ghost use mathlib.Core.Bool.{false, true};
-ghost use mathlib.Core.List.{List, []};
-ghost use mathlib.Core.Option.{none};
-ghost use Prim.Native.Nat.{ℕ, _+_, _≤_};
+ghost use mathlib.Core.List.{[]};
+ghost use Prim.Native.Nat.{_+_, _≤_};
 ghost use lib.ListN.{length, take};
 ghost use Rattle.standard.specs.Delivery.{given};
 ghost use Rattle.standard.specs.Identifier.{und};
@@ -24,13 +23,6 @@ ghost use Rattle.parents.specs.Answered.{TestedChain, givenAnswered};
 pub enum Answered {
     Refused(Canon),
     Lines(Listed),
-}
-
-// A buffer for the canonical form.
-fn blank() -> [u8; 512]
-    ensures { λ r. ⌜ length r ≡ 512 ⌝ }
-{
-    [0u8; 512]
 }
 
 // Lists the canonical form in buf without its extensions, and its parents.
@@ -54,7 +46,7 @@ pub fn chain_tested(id: &[u8], aliases: &[u8], parents: &[u8], out: &mut [u8]) -
     requires { ⌜ TestedChain (now aliases) (now parents) ⌝ }
     ensures { λ r. ⌜ givenAnswered r (now (out .exit)) ≡ given (chainFrom (tablesOf (now (aliases .entry)) [] (now (parents .entry))) (read (now (id .entry)))) (now (out .entry)) ⌝ }
 {
-    let mut buf = blank();
+    let mut buf = buffer();
     let none = [0u16; 1];
     let c = canonical_form(id, aliases, &none[..0], &mut buf);
     let Canon::Formed(f) = c else {

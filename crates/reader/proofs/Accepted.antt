@@ -23,8 +23,9 @@ use borrow.Author.Tests.{lt-ltb, le-ltb}
 use Rattle.reader.specs.declared.Parts.{Parts}
 use Rattle.reader.specs.Cuts.{languageCut, cutsAfter, cutsOf}
 use Rattle.reader.specs.Parts.{startOf, partsOf}
-use Rattle.reader.specs.Words.{raised, laterWord, LaterFits}
-use Rattle.reader.proofs.Words.{raised-nil}
+use Rattle.subtag.specs.Bytes.{raised}
+use Rattle.subtag.proofs.Raised.{raised-nil}
+use Rattle.reader.specs.Words.{laterWord, LaterFits}
 use Rattle.reader.proofs.Bodies.{body, heads}
 use Rattle.reader.proofs.Walked.{grouped-flat}
 use Rattle.reader.proofs.Parting.{first-none}

@@ -7,7 +7,7 @@ use Prim.Native.Nat.{ℕ, _+_}
 use native.Mathlib.Omega.{arith}
 use lib.ListN.{length}
 use Rattle.standard.specs.Tag.{Tag, same}
-use Rattle.standard.specs.Grammar.{isSingleton, isField, sizeOf, oneSize, xTag, Groups, withTag, grouped, flat}
+use Rattle.standard.specs.Grammar.{isSingleton, isFieldKey, sizeOf, oneSize, xTag, Groups, withTag, grouped, flat}
 use Rattle.standard.specs.Identifier.{parts}
 use Rattle.standard.specs.Reading.{Fault, firstOf, isX, upTo, from, groupsFault, extensionFault, privateFault}
 use Rattle.standard.proofs.Bytes.{clash, bool-cases}
@@ -21,10 +21,10 @@ unfoldable pub heads : List Tag → List (List Tag)
 heads ts = (grouped isSingleton (upTo isX ts)) .groups
 
 unfoldable pub ahead : List Tag → List Tag
-ahead b = (grouped isField b) .before
+ahead b = (grouped isFieldKey b) .before
 
 unfoldable pub fields : List Tag → List (List Tag)
-fields b = (grouped isField b) .groups
+fields b = (grouped isFieldKey b) .groups
 
 pub single-not-x : (t : Tag) → isSingleton t ≡ false → isX t ≡ false
 unfolding isX isSingleton oneSize sizeOf
@@ -108,23 +108,23 @@ body-single t ts e = bool-cases (isX t) (body-x t ts) (body-head t ts e)
 
 -- fields
 module _ (t : Tag) (b : List Tag) where
-  fields-step : (k : Bool) → isField t ≡ k → grouped isField (t ∷ b) ≡ withTag k t (grouped isField b)
+  fields-step : (k : Bool) → isFieldKey t ≡ k → grouped isFieldKey (t ∷ b) ≡ withTag k t (grouped isFieldKey b)
   unfolding grouped
-  fields-step k e = ap (λ (h : Bool). withTag h t (grouped isField b)) e
+  fields-step k e = ap (λ (h : Bool). withTag h t (grouped isFieldKey b)) e
 
-  pub ahead-more : isField t ≡ false → ahead (t ∷ b) ≡ t ∷ ahead b
+  pub ahead-more : isFieldKey t ≡ false → ahead (t ∷ b) ≡ t ∷ ahead b
   unfolding ahead withTag
   ahead-more e = ap (λ (g : Groups). g .before) (fields-step false e)
 
-  pub fields-more : isField t ≡ false → fields (t ∷ b) ≡ fields b
+  pub fields-more : isFieldKey t ≡ false → fields (t ∷ b) ≡ fields b
   unfolding fields withTag
   fields-more e = ap (λ (g : Groups). g .groups) (fields-step false e)
 
-  pub ahead-key : isField t ≡ true → ahead (t ∷ b) ≡ []
+  pub ahead-key : isFieldKey t ≡ true → ahead (t ∷ b) ≡ []
   unfolding ahead withTag
   ahead-key e = ap (λ (g : Groups). g .before) (fields-step true e)
 
-  pub fields-key : isField t ≡ true → fields (t ∷ b) ≡ (t ∷ ahead b) ∷ fields b
+  pub fields-key : isFieldKey t ≡ true → fields (t ∷ b) ≡ (t ∷ ahead b) ∷ fields b
   unfolding ahead fields withTag
   fields-key e = ap (λ (g : Groups). g .groups) (fields-step true e)
 

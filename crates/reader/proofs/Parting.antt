@@ -7,7 +7,7 @@ use Prim.Native.Nat.{ℕ, suc, _+_}
 use native.Mathlib.Omega.{arith}
 use lib.ListN.{length}
 use Rattle.standard.specs.Tag.{Tag, same, label}
-use Rattle.standard.specs.Grammar.{Kind, aScript, aRegion, aVariant, aNone, sizeOf, kind, kindOf, variantKind, isVariant, isLanguage, isSingleton, isTwo, isField, uTag, tTag, grouped, flat, only}
+use Rattle.standard.specs.Grammar.{Kind, aScript, aRegion, aVariant, aNone, sizeOf, kind, kindOf, variantKind, isVariant, isLanguage, isSingleton, isTwo, isFieldKey, uTag, tTag, grouped, flat, only}
 use Rattle.standard.specs.Identifier.{part, parts}
 use Rattle.standard.specs.Reading as reading
 use Rattle.standard.specs.Reading.{Fault, fault, firstOf, accept, wrongKeyword, isX, upTo, from, root, ofKind, find, afterFirst, identifierOf, grammarFault}
@@ -181,7 +181,7 @@ module _ (singles listed : List Tag) (back at : ℕ) (t : Tag) where
 
   in-field : (key : State) → (Passes key → Inside key) → Passes (fieldState key t) → Inside (fieldState key t)
   unfolding fieldState inExtension cut verdictOf singlesAfter
-  in-field key k e = go (isField t) (isTwo t) e
+  in-field key k e = go (isFieldKey t) (isTwo t) e
     where
       value : (b : Bool) → Passes (elim b [ true ↦ Misplaced | false ↦ Field ]) → Inside (elim b [ true ↦ Misplaced | false ↦ Field ])
       value true e = no-misplaced e
@@ -208,8 +208,8 @@ module _ (singles listed : List Tag) (back at : ℕ) (t : Tag) where
   inside (Main g) h e = clash {b = true} refl (sym h)
   inside Unicode h e = in-keywords (wrongKeyword t) e
   inside Keywords h e = in-keywords (wrongKeyword t) e
-  inside Transform h e = in-transform (isField t) (isLanguage t) e
-  inside (Part g) h e = in-placed (isField t) (accept (stageOf g) (kindOf t)) (kindOf t) e
+  inside Transform h e = in-transform (isFieldKey t) (isLanguage t) e
+  inside (Part g) h e = in-placed (isFieldKey t) (accept (stageOf g) (kindOf t)) (kindOf t) e
   inside Key h e = in-field Unfinished no-unfinished e
   inside Field h e = in-field Key (λ k. in-key) e
   inside Other h e = in-others

@@ -17,8 +17,10 @@ use Rattle.standard.proofs.Bytes.{bool-cases}
 use Rattle.reader.specs.declared.Start.the-variants.{Language, Script, Root}
 use Rattle.reader.specs.declared.Parts.{Parts}
 use Rattle.reader.specs.Parts.{parts, refused, startOf, partsOf, outcomeAs, outcome}
-use Rattle.reader.specs.Words.{raised, laterWord, LaterFits, refusedReport, partsReport}
-use Rattle.reader.proofs.Words.{raised-none, raised-title, raised-upper}
+use Rattle.subtag.specs.Bytes.{raised}
+use Rattle.subtag.proofs.Raised.{raised-title, raised-upper}
+use Rattle.reader.specs.Words.{laterWord, LaterFits, refusedReport, partsReport}
+use Rattle.reader.proofs.Words.{raised-none}
 use Rattle.reader.proofs.Accepted.{Named, named}
 
 -- What the first subtag is.

@@ -1,40 +1,20 @@
 -- What follows the first subtag of an accepted language part: perhaps a script, perhaps a region, then variants.
 -- Assumes nothing.
 use mathlib.Core.Path.{_≡_, refl, sym, ap, ap₂, _∙_}
-use mathlib.Core.Bool.{Bool, true, false, _&&_}
+use mathlib.Core.Bool.{true, false}
 use mathlib.Core.List.{List, [], _∷_, _++_}
-use mathlib.Core.Option.{Option, none, some, Option·none-ne-some, Option·some-ne-none}
+use mathlib.Core.Option.{Option, none, some}
 use Prim.Native.Nat.{ℕ, _+_}
 use Rattle.standard.specs.Tag.{Tag}
 use Rattle.standard.specs.Grammar.{Kind, aScript, aRegion, aVariant, aNone, kindOf, kind, variantKind, sizeOf, isVariant, only}
-use Rattle.standard.specs.Reading.{optional, Stage, afterLanguage, afterScript, afterRegion, afterRoot, accept, member, restFault, ofKind, find}
+use Rattle.standard.specs.Reading.{optional, Stage, afterLanguage, afterScript, afterRegion, afterRoot, accept, restFault, ofKind, find}
 use Rattle.standard.proofs.Bytes.{clash}
-use Rattle.standard.proofs.Faults.{kind-variant}
+use Rattle.standard.proofs.Faults.{kind-variant, Back, back, nothing}
 use Rattle.standard.proofs.Shapes.{known}
-
--- a subtag that can stand there, and the rest
-record Back (st : Stage) (t : Tag) (ts : List Tag) : Type 0 where
-  next : Stage
-  accepted : accept st (kindOf t) ≡ some next
-  seen : List Tag
-  at : ℕ
-  after : restFault next seen at ts ≡ none
-
-back : (st : Stage) (seen : List Tag) (at : ℕ) (t : Tag) (ts : List Tag) → restFault st seen at (t ∷ ts) ≡ none → Back st t ts
-unfolding restFault
-back st seen at t ts e = go (accept st (kindOf t)) refl (isVariant t && member t seen) refl
-  where
-    go : (o : Option Stage) → accept st (kindOf t) ≡ o → (b : Bool) → (isVariant t && member t seen) ≡ b → Back st t ts
-    go none f b g = absurd (Option·some-ne-none _ (rw (f, restFault) at e))
-    go (some n) f true g = absurd (Option·some-ne-none _ (rw (f, g, restFault) at e))
-    go (some n) f false g = record { next = n; accepted = f; seen = _; at = _; after = rw (f, g, restFault) at e }
 
 -- the stage that follows
 on : {m st : Stage} {t : Tag} {ts : List Tag} (b : Back st t ts) → _≡_ {A = Option Stage} (some m) (some (b .next)) → restFault m (b .seen) (b .at) ts ≡ none
 on {m} b e = let q : m ≡ b .next = cc in rw q (b .after)
-
-nothing : {n : Stage} {P : Type 0} → _≡_ {A = Option Stage} none (some n) → P
-nothing {n} e = absurd (Option·none-ne-some n e)
 
 -- what the searches make of one subtag more
 find-other : (k : Kind) (t : Tag) (ts : List Tag) → ofKind k (kindOf t) ≡ false → find k (t ∷ ts) ≡ find k ts

@@ -9,7 +9,7 @@ use Prim.Native.Nat.{ℕ, suc, _+_}
 use native.Mathlib.Omega.{arith}
 use lib.ListN.{length}
 use Rattle.standard.specs.Tag.{Tag, order, same, label}
-use Rattle.standard.specs.Grammar.{Kind, aScript, aRegion, aVariant, aNone, kindOf, variantKind, isVariant, isLanguage, isSingleton, isTwo, isField, uTag, tTag, xTag, withTag, grouped, flat}
+use Rattle.standard.specs.Grammar.{Kind, aScript, aRegion, aVariant, aNone, kindOf, variantKind, isVariant, isLanguage, isSingleton, isTwo, isFieldKey, uTag, tTag, xTag, withTag, grouped, flat}
 use Rattle.standard.specs.Identifier.{parts}
 use Rattle.standard.specs.Reading as reading
 use Rattle.standard.specs.Reading.{Fault, fault, firstOf, badTag, member, accept, restFault, partFault, languageOnly, alone, groupsFault, noLanguage, start, grammarFault, wrongKeyword, wrongValue, fieldFault, fieldsFault, extensionFault, privateFault, isX, upTo, from, root}
@@ -102,7 +102,7 @@ closing Unfinished back b f = f
 
 -- Keys are held against `listed` as against `seen`: no variant is a key.
 abbrev Agrees : List Tag → List Tag → Type 0
-Agrees listed seen = (k : Tag) → isField k ≡ true → member k listed ≡ member k seen
+Agrees listed seen = (k : Tag) → isFieldKey k ≡ true → member k listed ≡ member k seen
 
 -- what the walk holds later subtags against, and what the standard does
 unfoldable Fits : State → List Tag → List Tag → Type 0
@@ -314,11 +314,11 @@ singles-stage Variant t singles = refl
 singles-stage Root t singles = refl
 
 -- no variant is a key
-variant-no-field : (t : Tag) → isField t ≡ false → (listed : List Tag) → Agrees listed [] → Agrees (t ∷ listed) []
+variant-no-field : (t : Tag) → isFieldKey t ≡ false → (listed : List Tag) → Agrees listed [] → Agrees (t ∷ listed) []
 unfolding member
 variant-no-field t f listed a k e = rw (a k e) (bool-cases (same k t) (λ g. clash (rw (same-eq k t g) at e) f) (λ g. rw g))
 
-agrees-listed : (g : Stage) (t : Tag) (listed : List Tag) → isField t ≡ false → Agrees listed [] → Agrees (listedAfter (stageVerdict g) t listed) []
+agrees-listed : (g : Stage) (t : Tag) (listed : List Tag) → isFieldKey t ≡ false → Agrees listed [] → Agrees (listedAfter (stageVerdict g) t listed) []
 unfolding listedAfter stageVerdict
 agrees-listed Language t listed f a = a
 agrees-listed Script t listed f a = a
@@ -338,11 +338,11 @@ badTag-here : (n : ℕ) (p : Tag → Bool) (at : ℕ) (t : Tag) (b : List Tag) �
 unfolding badTag
 badTag-here n p at t b e = rw (e, badTag)
 
-key-no-value : (t : Tag) → isField t ≡ true → wrongValue t ≡ false
+key-no-value : (t : Tag) → isFieldKey t ≡ true → wrongValue t ≡ false
 unfolding wrongValue
 key-no-value t f = rw f (bool-cases (isTwo t) (λ e. rw e) (λ e. rw e))
 
-fields-later : (seen : List Tag) (at : ℕ) (t : Tag) (b : List Tag) → isField t ≡ false → fieldsFrom seen at (t ∷ b) ≡ fieldsFrom seen (at + suc (length t)) b
+fields-later : (seen : List Tag) (at : ℕ) (t : Tag) (b : List Tag) → isFieldKey t ≡ false → fieldsFrom seen at (t ∷ b) ≡ fieldsFrom seen (at + suc (length t)) b
 unfolding fieldsFrom
 fields-later seen at t b f = rw (ahead-more t b f, fields-more t b f, parts-next at t (ahead b))
 
@@ -409,7 +409,7 @@ module _ (t : Tag) (ts : List Tag) (law : Law ts) (s : isSingleton t ≡ false) 
       (λ w. law (Main w) singles (listedAfter (stageVerdict w) t listed) (listedAfter (stageVerdict w) t listed) at (at + suc (length t)) nx refl)
       ∙ sym (expected-more (Main g) singles listed back at)
 
-  more-part : (g : Stage) (singles listed : List Tag) (back at : ℕ) → NoX singles → isField t ≡ false → Agrees listed []
+  more-part : (g : Stage) (singles listed : List Tag) (back at : ℕ) → NoX singles → isFieldKey t ≡ false → Agrees listed []
       → walkFault (Part g) singles listed back at (t ∷ ts) ≡ expected (Part g) singles listed back at (t ∷ ts)
   unfolding afterOther closing within expected verdictOf later Fits
   more-part g singles listed back at nx f a =
@@ -419,7 +419,7 @@ module _ (t : Tag) (ts : List Tag) (law : Law ts) (s : isSingleton t ≡ false) 
       ∙ sym (expected-more (Part g) singles listed back at ∙ rw (ahead-more t (body ts) f, fields-later [] at t (body ts) f) (first-assoc _ _ _))
 
   -- the key of a field: the standard's group that it begins
-  keyed : (st : State) (singles listed seen : List Tag) (back at : ℕ) → NoX singles → Agrees listed seen → isField t ≡ true
+  keyed : (st : State) (singles listed seen : List Tag) (back at : ℕ) → NoX singles → Agrees listed seen → isFieldKey t ≡ true
       → stepped st singles listed back at t ts Key ≡ firstOf (groupsFault fieldFault seen at ((t ∷ ahead (body ts)) ∷ fields (body ts))) (later singles at)
   unfolding stepped verdictOf verdictFault singlesAfter listedAfter firstOf Fits expected within closing later fieldsFrom groupsFault label alone fieldFault unfinished repeated
   keyed st singles listed seen back at nx a f =
@@ -434,7 +434,7 @@ module _ (t : Tag) (ts : List Tag) (law : Law ts) (s : isSingleton t ≡ false) 
       go (u ∷ b) false e = rw (e, groupsFault) (rw (parts-next at t (u ∷ b), badTag-on 5 wrongValue at t (u ∷ b) (key-no-value t f)))
 
   -- from a state in which a field may begin
-  key-here : (st : State) (singles listed seen keys : List Tag) (back at : ℕ) → NoX singles → Agrees listed keys → isField t ≡ true → afterOther st t ≡ Key
+  key-here : (st : State) (singles listed seen keys : List Tag) (back at : ℕ) → NoX singles → Agrees listed keys → isFieldKey t ≡ true → afterOther st t ≡ Key
       → ((f : Option Fault) → closing st back (t ∷ body ts) f ≡ f) → within st seen at (t ∷ body ts) ≡ fieldsFrom keys at (t ∷ body ts)
       → walkFault st singles listed back at (t ∷ ts) ≡ expected st singles seen back at (t ∷ ts)
   unfolding fieldsFrom parts
@@ -444,7 +444,7 @@ module _ (t : Tag) (ts : List Tag) (law : Law ts) (s : isSingleton t ≡ false) 
       ∙ sym (expected-more st singles seen back at ∙ c _ ∙ rw w (rw (ahead-key t (body ts) f, fields-key t (body ts) f, z)))
 
   -- in a field, its key just read or not
-  value-here : (st : State) (singles listed seen : List Tag) (back at : ℕ) → NoX singles → Agrees listed seen → isField t ≡ false
+  value-here : (st : State) (singles listed seen : List Tag) (back at : ℕ) → NoX singles → Agrees listed seen → isFieldKey t ≡ false
       → ((k : Bool) → isTwo t ≡ k → afterOther st t ≡ elim k [ true ↦ Misplaced | false ↦ Field ])
       → ((f : Option Fault) → closing st back (t ∷ body ts) f ≡ f) → within st seen at (t ∷ body ts) ≡ within Field seen at (t ∷ body ts)
       → walkFault st singles listed back at (t ∷ ts) ≡ expected st singles seen back at (t ∷ ts)
@@ -459,14 +459,14 @@ module _ (t : Tag) (ts : List Tag) (law : Law ts) (s : isSingleton t ≡ false) 
   more-key : (singles listed seen : List Tag) (back at : ℕ) → NoX singles → Agrees listed seen → walkFault Key singles listed back at (t ∷ ts) ≡ expected Key singles seen back at (t ∷ ts)
   unfolding afterOther fieldState closing within unfinished stepped verdictOf verdictFault firstOf
   more-key singles listed seen back at nx a =
-      bool-cases (isField t)
+      bool-cases (isFieldKey t)
       (λ f. onward Key Unfinished singles listed back at (rw (f, afterOther, fieldState)) ∙ sym (expected-more Key singles seen back at ∙ rw (ahead-key t (body ts) f)))
       (λ f. value-here Key singles listed seen back at nx a f (λ k e. rw (f, e, afterOther, fieldState)) (λ o. rw (ahead-more t (body ts) f)) refl)
 
   more-field : (singles listed seen : List Tag) (back at : ℕ) → NoX singles → Agrees listed seen → walkFault Field singles listed back at (t ∷ ts) ≡ expected Field singles seen back at (t ∷ ts)
   unfolding afterOther fieldState closing within firstOf badTag
   more-field singles listed seen back at nx a =
-      bool-cases (isField t)
+      bool-cases (isFieldKey t)
       (λ f. key-here Field singles listed seen seen back at nx a f (rw (f, afterOther, fieldState)) (λ o. refl) (rw (ahead-key t (body ts) f)))
       (λ f. value-here Field singles listed seen back at nx a f (λ k e. rw (f, e, afterOther, fieldState)) (λ o. refl) refl)
 
@@ -477,7 +477,7 @@ module _ (t : Tag) (ts : List Tag) (law : Law ts) (s : isSingleton t ≡ false) 
   more-transform : (singles : List Tag) (back at : ℕ) → NoX singles → walkFault Transform singles [] back at (t ∷ ts) ≡ expected Transform singles [] back at (t ∷ ts)
   unfolding afterOther closing unfinished within partFault languageOnly firstOf stepped verdictOf stageVerdict verdictFault singlesAfter listedAfter Fits expected later stageOf
   more-transform singles back at nx =
-      bool-cases (isField t)
+      bool-cases (isFieldKey t)
       (λ f. key-here Transform singles [] [] [] back at nx (λ k e. refl) f (rw (f, afterOther)) (λ o. refl) (fields-fault at (t ∷ body ts) ∙ rw (ahead-key t (body ts) f)))
       (λ f. bool-cases (isLanguage t)
       (λ l.
@@ -494,7 +494,7 @@ module _ (t : Tag) (ts : List Tag) (law : Law ts) (s : isSingleton t ≡ false) 
   law-more Keywords singles listed seen back at nx fit = more-keywords Keywords singles listed seen back at nx (λ k e. rw (e, afterOther)) (λ o. refl) refl
   law-more Transform singles listed seen back at nx fit = rw fit (more-transform singles back at nx)
   law-more (Part g) singles listed seen back at nx fit =
-      bool-cases (isField t)
+      bool-cases (isFieldKey t)
       (λ f. key-here (Part g) singles listed seen [] back at nx (fit .1) f (rw (f, afterOther)) (λ o. refl) (rw (ahead-key t (body ts) f)))
       (λ f. rw (← (fit .0)) (more-part g singles listed back at nx f (fit .1)))
   law-more Key singles listed seen back at nx fit = more-key singles listed seen back at nx fit

@@ -10,23 +10,12 @@ use lib.ListN.{length, getD, take, drop, set, length-set}
 use lib.Seq.{take-suc-set}
 use borrow.Author.Tests.{lt-ltb, le-ltb}
 use Rattle.standard.specs.Tag.{Tag, label}
-use Rattle.standard.specs.Grammar.{separator, lowerByte, upperByte, title, upper}
+use Rattle.standard.specs.Grammar.{separator, lowerByte}
 use Rattle.standard.specs.Reading.{split}
 use Rattle.subtag.proofs.Walk.{at-end, at-sep, at-byte, le-or-lt}
-use Rattle.reader.specs.Words.{wordIs, raised, raisedByte}
-
-pub cased-up : (b i n r : ℕ) → i < n → r ≡ upperByte b → r ≡ raisedByte i n b
-unfolding raisedByte
-cased-up b i n r h e = rw (lt-ltb i n h) e
-
-pub cased-as-is : (b i n : ℕ) → n ≤ i → b ≡ raisedByte i n b
-unfolding raisedByte
-cased-as-is b i n h = rw (le-ltb i n h)
-
-pub raised-nil : (n : ℕ) → raised n [] ≡ []
-unfolding raised
-raised-nil zero = refl
-raised-nil (suc n) = refl
+use Rattle.subtag.specs.Bytes.{raised, raisedByte}
+use Rattle.subtag.proofs.Raised.{raised-nil}
+use Rattle.reader.specs.Words.{wordIs}
 
 raised-cons : (n b : ℕ) (t : Tag) → raised n (b ∷ t) ≡ raisedByte 0 n b ∷ raised (n - 1) t
 unfolding raised raisedByte
@@ -38,22 +27,10 @@ raised-at : (i n b : ℕ) → raisedByte 0 (n - i) b ≡ raisedByte i n b
 unfolding raisedByte
 raised-at i n b = ⊎-elim (λ h. rw (le-ltb 0 (n - i) (omega arith), le-ltb i n h)) (λ h. rw (lt-ltb 0 (n - i) (omega arith), lt-ltb i n h)) (le-or-lt n i)
 
--- none, one, or all
+-- none
 pub raised-none : (t : Tag) → raised 0 t ≡ t
 unfolding raised
 raised-none t = refl
-
-pub raised-title : (t : Tag) → raised 1 t ≡ title t
-unfolding raised title
-raised-title [] = refl
-raised-title (b ∷ t) = refl
-
-pub raised-upper : (n : ℕ) (t : Tag) → length t ≤ n → raised n t ≡ upper t
-unfolding raised upper
-raised-upper zero [] h = refl
-raised-upper zero (b ∷ t) h = absurd (omega arith)
-raised-upper (suc n) [] h = refl
-raised-upper (suc n) (b ∷ t) h = ap (_∷_ (upperByte b)) (raised-upper n t (omega arith))
 
 abbrev front : List ℕ → Tag
 front s = label (split s)
@@ -70,6 +47,9 @@ pub wording-start : (s : List ℕ) (n : ℕ) (bytes : List ℕ) → length (fron
 wording-start s n bytes h k = record { small = h; within = omega arith; room = k; size = omega arith; text = let z : n - 0 ≡ n = omega arith in rw z }
 
 module _ (s : List ℕ) (n : ℕ) (bytes : List ℕ) (len : ℕ) (w : Wording s n bytes len) where
+  pub wording-few : len ≤ 8
+  wording-few = let z = w .size in let q = w .small in omega arith
+
   pub wording-room : len < length s → separator (getD s len 0) ≡ false → len < 8
   wording-room h e = let l = ap length (at-byte s len h e) in let z = w .size in let q = w .small in omega arith
 

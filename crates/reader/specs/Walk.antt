@@ -6,7 +6,7 @@ use mathlib.Core.Option.{Option, none, some}
 use Prim.Native.Nat.{ℕ, suc, _+_}
 use lib.ListN.{length}
 use Rattle.standard.specs.Tag.{Tag, same}
-use Rattle.standard.specs.Grammar.{isLanguage, Kind, aScript, aRegion, aVariant, aNone, kindOf, isSingleton, isTwo, isField, uTag, tTag}
+use Rattle.standard.specs.Grammar.{isLanguage, Kind, aScript, aRegion, aVariant, aNone, kindOf, isSingleton, isTwo, isFieldKey, uTag, tTag}
 use Rattle.standard.specs.Reading as reading
 use Rattle.standard.specs.Reading.{Fault, fault, member, accept, afterLanguage, afterScript, afterRegion, afterRoot, wrongKeyword, isX, root}
 use Rattle.reader.specs.declared.Parts.{Parts}
@@ -50,7 +50,7 @@ firstState t =
 
 -- a subtag of a field, its key or its value, after this
 unfoldable pub fieldState : State → Tag → State
-fieldState key t = elim (isField t) [ true ↦ key | false ↦ elim (isTwo t) [ true ↦ Misplaced | false ↦ Field ] ]
+fieldState key t = elim (isFieldKey t) [ true ↦ key | false ↦ elim (isTwo t) [ true ↦ Misplaced | false ↦ Field ] ]
 
 -- what a singleton begins
 unfoldable pub opens : Tag → State
@@ -83,8 +83,8 @@ afterOther First t = firstState t
 afterOther (Main s) t = placed Main (accept (stageOf s) (kindOf t)) (kindOf t)
 afterOther Unicode t = elim (wrongKeyword t) [ true ↦ Misplaced | false ↦ Keywords ]
 afterOther Keywords t = elim (wrongKeyword t) [ true ↦ Misplaced | false ↦ Keywords ]
-afterOther Transform t = elim (isField t) [ true ↦ Key | false ↦ elim (isLanguage t) [ true ↦ Part Language | false ↦ Misplaced ] ]
-afterOther (Part s) t = elim (isField t) [ true ↦ Key | false ↦ placed Part (accept (stageOf s) (kindOf t)) (kindOf t) ]
+afterOther Transform t = elim (isFieldKey t) [ true ↦ Key | false ↦ elim (isLanguage t) [ true ↦ Part Language | false ↦ Misplaced ] ]
+afterOther (Part s) t = elim (isFieldKey t) [ true ↦ Key | false ↦ placed Part (accept (stageOf s) (kindOf t)) (kindOf t) ]
 afterOther Key t = fieldState Unfinished t
 afterOther Field t = fieldState Key t
 afterOther Other t = Others

@@ -1,13 +1,13 @@
 -- What `read` gives back, as the standard's report: a word is its first `len` bytes. Assumes nothing.
-use mathlib.Core.Bool.{true, false, cond}
-use mathlib.Core.List.{List, [], _∷_}
-use Prim.Native.Nat.{ℕ, zero, suc, _+_, _≤_, _<_}
+use mathlib.Core.Bool.{true, false}
+use mathlib.Core.List.{List, []}
+use Prim.Native.Nat.{ℕ, _+_, _≤_, _<_}
 use lib.Dec.{ltb}
 use lib.ListN.{length, take, drop}
 use Rattle.standard.specs.Tag.{Tag, label}
 use Rattle.standard.specs.Reading.{split, bad}
-use Rattle.standard.specs.Grammar.{upperByte}
 use Rattle.standard.specs.Report as standard
+use Rattle.subtag.specs.Bytes.{raised}
 use Rattle.reader.specs.declared.Parts.{Parts}
 use Rattle.reader.specs.declared.report.Word.{Word}
 use Rattle.reader.specs.declared.report.Report.{Report}
@@ -26,15 +26,11 @@ reportIs r = record {
   extensions = r .extensions;
 }
 
--- the first so many bytes as capitals: none in a language, one in a script, all in a region
-unfoldable pub raised : ℕ → Tag → Tag
-raised zero t = t
-raised (suc n) [] = []
-raised (suc n) (b ∷ bs) = upperByte b ∷ raised n bs
-
--- the byte at an index, of which the first so many are capitals
-unfoldable pub raisedByte : ℕ → ℕ → ℕ → ℕ
-raisedByte i n b = cond (ltb i n) (upperByte b) b
+-- each word ends within its bytes
+pub record Within (r : Report) : Type 0 where
+  pub language : r .language .len ≤ 8
+  pub script : r .script .len ≤ 8
+  pub region : r .region .len ≤ 8
 
 -- the subtag behind a separator at `from`, where a part goes from there to `to`
 unfoldable pub laterWord : ℕ → ℕ → ℕ → List ℕ → Tag

@@ -12,7 +12,8 @@ ghost use Rattle.standard.specs.Identifier.{und as undTag};
 ghost use Rattle.standard.specs.Reading.{split, good, faultOf, identifierOf};
 ghost use Rattle.standard.specs.Report.{report, reportOf};
 ghost use Rattle.reader.specs.Parts.{partsOf};
-ghost use Rattle.reader.specs.Words.{wordIs, reportIs, raised, raisedByte, laterWord, LaterFits, refusedReport, partsReport};
+ghost use Rattle.subtag.specs.Bytes.{raised};
+ghost use Rattle.reader.specs.Words.{wordIs, reportIs, Within, laterWord, LaterFits, refusedReport, partsReport};
 
 // A subtag: its first `len` bytes.
 pub struct Word {
@@ -30,20 +31,10 @@ pub struct Report {
     pub extensions: usize,
 }
 
-// The byte at the index i, of which the first `capitals` are capitals.
-fn cased(b: u8, i: usize, capitals: usize) -> u8
-    ensures { λ r. ⌜ r ≡ raisedByte i capitals b ⌝ }
-{
-    if i < capitals {
-        return subtag::upper(b);
-    }
-    b
-}
-
 // The subtag at the front of rest, its first `capitals` bytes as capitals.
 fn word_of(rest: &[u8], capitals: usize) -> Word
     requires { ⌜ length (label (split (now rest))) ≤ 8 ⌝ }
-    ensures { λ r. ⌜ wordIs r ≡ raised capitals (label (split (now (rest .entry)))) ⌝ }
+    ensures { λ r. ⌜ (wordIs r ≡ raised capitals (label (split (now (rest .entry))))) × (r .len ≤ 8) ⌝ }
 {
     let mut bytes = [0u8; 8];
     let mut len: usize = 0;
@@ -52,7 +43,7 @@ fn word_of(rest: &[u8], capitals: usize) -> Word
         if subtag::is_separator(b) {
             return Word { bytes, len };
         }
-        bytes[len] = cased(subtag::lower(b), len, capitals);
+        bytes[len] = subtag::raise(subtag::lower(b), len, capitals);
         len += 1;
     }
     Word { bytes, len }
@@ -60,7 +51,7 @@ fn word_of(rest: &[u8], capitals: usize) -> Word
 
 // No subtag.
 fn absent() -> Word
-    ensures { λ r. ⌜ wordIs r ≡ [] ⌝ }
+    ensures { λ r. ⌜ (wordIs r ≡ []) × (r .len ≤ 8) ⌝ }
 {
     Word {
         bytes: [0u8; 8],
@@ -70,7 +61,7 @@ fn absent() -> Word
 
 // The word `und`.
 fn und() -> Word
-    ensures { λ r. ⌜ wordIs r ≡ undTag ⌝ }
+    ensures { λ r. ⌜ (wordIs r ≡ undTag) × (r .len ≤ 8) ⌝ }
 {
     Word {
         bytes: [117, 110, 100, 0, 0, 0, 0, 0],
@@ -81,7 +72,7 @@ fn und() -> Word
 // The subtag behind the separator at `from`, where a part goes from there to `to`.
 fn later(id: &[u8], from: usize, to: usize, capitals: usize) -> Word
     requires { ⌜ LaterFits from to (now id) ⌝ }
-    ensures { λ r. ⌜ wordIs r ≡ laterWord capitals from to (now (id .entry)) ⌝ }
+    ensures { λ r. ⌜ (wordIs r ≡ laterWord capitals from to (now (id .entry))) × (r .len ≤ 8) ⌝ }
 {
     if from < to {
         let at = from + 1;
@@ -91,7 +82,7 @@ fn later(id: &[u8], from: usize, to: usize, capitals: usize) -> Word
 }
 
 fn refusal(number: u8, place: usize) -> Report
-    ensures { λ r. ⌜ reportIs r ≡ refusedReport number place ⌝ }
+    ensures { λ r. ⌜ (reportIs r ≡ refusedReport number place) × Within r ⌝ }
 {
     Report {
         number,
@@ -105,7 +96,8 @@ fn refusal(number: u8, place: usize) -> Report
 }
 
 fn filled(p: Parts, language: Word, script: Word, region: Word) -> Report
-    ensures { λ r. ⌜ reportIs r ≡ partsReport p (wordIs language) (wordIs script) (wordIs region) ⌝ }
+    requires { ⌜ (language .len ≤ 8) × (script .len ≤ 8) × (region .len ≤ 8) ⌝ }
+    ensures { λ r. ⌜ (reportIs r ≡ partsReport p (wordIs language) (wordIs script) (wordIs region)) × Within r ⌝ }
 {
     Report {
         number: 0,
@@ -121,7 +113,7 @@ fn filled(p: Parts, language: Word, script: Word, region: Word) -> Report
 // The report of an accepted identifier.
 fn report_parts(id: &[u8], p: Parts) -> Report
     requires { ⌜ (faultOf (now id) ≡ none) × (p ≡ partsOf (split (now id))) ⌝ }
-    ensures { λ r. ⌜ reportIs r ≡ reportOf (good (identifierOf (split (now (id .entry))))) ⌝ }
+    ensures { λ r. ⌜ (reportIs r ≡ reportOf (good (identifierOf (split (now (id .entry)))))) × Within r ⌝ }
 {
     let start = p.start;
     match start {
@@ -140,7 +132,7 @@ fn report_parts(id: &[u8], p: Parts) -> Report
 
 // Reads an identifier.
 pub fn read(id: &[u8]) -> Report
-    ensures { λ r. ⌜ reportIs r ≡ report (now (id .entry)) ⌝ }
+    ensures { λ r. ⌜ (reportIs r ≡ report (now (id .entry))) × Within r ⌝ }
 {
     let r = crate::read_parts(id);
     match r {

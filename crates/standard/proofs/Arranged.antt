@@ -1,22 +1,20 @@
 -- An extension that was read without a fault has none after it is arranged.
 -- Assumes nothing.
-use mathlib.Core.Path.{_≡_, refl, sym, ap, _∙_, subst}
-use mathlib.Core.Bool.{Bool, true, false, cond, not, _&&_, _||_}
-use mathlib.Core.Logic.{_⊎_, inl, inr}
-use mathlib.Core.List.{List, [], _∷_, _++_, map, cons≢nil, append-assoc}
+use mathlib.Core.Path.{_≡_, refl, sym, _∙_}
+use mathlib.Core.Bool.{Bool, true, false, not}
+use mathlib.Core.List.{List, [], _∷_, _++_, map, append-assoc}
 use mathlib.Core.Option.{Option, none, some, Option·some-ne-none}
-use Prim.Native.Nat.{ℕ, suc, _+_, _≤_, Ordering, Ordering·lt, Ordering·eq, Ordering·gt}
-use native.Mathlib.Omega.{arith}
+use Prim.Native.Nat.{ℕ, suc, _+_, Ordering, Ordering·lt, Ordering·eq, Ordering·gt}
 use lib.ListN.{length}
 use Rattle.standard.specs.Tag.{Tag, order, same, insertBy, sortBy, itself, label}
-use Rattle.standard.specs.Grammar.{Kind, aScript, aRegion, aVariant, aNone, kindOf, variantKind, isVariant, isLanguage, isSingleton, isTwo, isField, uTag, tTag, trueTag, Groups, withTag, grouped, flat, only, others, dropTrue, arrangeKeywords, arrangePart, arrangeFields, arrangeOne, arrange}
+use Rattle.standard.specs.Grammar.{aScript, aRegion, aVariant, kindOf, variantKind, isVariant, isLanguage, isSingleton, isTwo, isFieldKey, uTag, tTag, trueTag, withTag, grouped, flat, only, others, dropTrue, arrangeKeywords, arrangePart, arrangeFields, arrangeOne}
 use Rattle.standard.specs.Identifier.{parts}
-use Rattle.standard.specs.Reading.{optional, Fault, firstOf, badTag, wrongSize, afterLanguage, restFault, languageOnly, partFault, alone, groupsFault, wrongKeyword, wrongValue, fieldFault, fieldsFault, extensionFault, isX}
-use Rattle.standard.proofs.Tags.{All, all-map, Ascending, sort-all, sort-ascending}
-use Rattle.standard.proofs.Groups.{Lacks, Has, Headed, regroup, grouped-lacks, all-append, only-all, others-all, only-parts, others-parts, part-all, dropTrue-headed}
+use Rattle.standard.specs.Reading.{optional, Fault, firstOf, wrongSize, afterLanguage, restFault, languageOnly, partFault, alone, wrongKeyword, wrongValue, fieldFault, fieldsFault, extensionFault, isX}
+use Rattle.standard.proofs.Tags.{All, all-map, sort-all, sort-ascending}
+use Rattle.standard.proofs.Groups.{Lacks, Headed, regroup, grouped-lacks, all-append, only-parts, others-parts, part-all, dropTrue-headed}
 use Rattle.standard.proofs.Bytes.{clash, bool-cases}
 use Rattle.standard.proofs.Shapes.{Word}
-use Rattle.standard.proofs.Faults.{Fresh, ascending-fresh, badTag-none, none-badTag, Variants, kind-variant, Maybe, Rest, rest-none, none-rest, groups-none, none-groups}
+use Rattle.standard.proofs.Faults.{ascending-fresh, badTag-none, none-badTag, Variants, kind-variant, Rest, rest-none, none-rest, groups-none, none-groups}
 use Rattle.standard.proofs.Round.{Extension, all-impl, all-flat, lacks-variant}
 
 pub firstOf-none : (a b : Option Fault) → firstOf a b ≡ none → (a ≡ none) × (b ≡ none)
@@ -57,8 +55,8 @@ keywords-all P ts h =
 fields-all : (P : Tag → Type 0) (ts : List Tag) → All P ts → All P (arrangeFields ts)
 unfolding arrangeFields
 fields-all P ts h =
-    let g = grouped isField ts in
-    let k = grouped-all P isField ts h in
+    let g = grouped isFieldKey ts in
+    let k = grouped-all P isFieldKey ts h in
     all-append P (arrangePart (g .before)) (flat (sortBy label (g .groups))) (part-all P (g .before) (k .0))
     (all-flat P (sortBy label (g .groups)) (sort-all label (All P) (g .groups) (k .1)))
 
@@ -140,17 +138,17 @@ keywords-filled t ts = go (isTwo t) refl
 
 fields-filled : (t : Tag) (ts : List Tag) → filled (arrangeFields (t ∷ ts)) ≡ true
 unfolding arrangeFields arrangePart grouped withTag filled
-fields-filled t ts = go (isField t) refl
+fields-filled t ts = go (isFieldKey t) refl
   where
     fs : List (List Tag)
-    fs = (grouped isField (t ∷ ts)) .groups
+    fs = (grouped isFieldKey (t ∷ ts)) .groups
 
     heads : All Filled (sortBy label fs)
-    heads = all-impl (Headed isField) Filled (headed-filled isField) (sortBy label fs) (sort-all label (Headed isField) fs ((grouped-lacks isField (t ∷ ts)) .1))
+    heads = all-impl (Headed isFieldKey) Filled (headed-filled isFieldKey) (sortBy label fs) (sort-all label (Headed isFieldKey) fs ((grouped-lacks isFieldKey (t ∷ ts)) .1))
 
-    go : (b : Bool) → isField t ≡ b → filled (arrangeFields (t ∷ ts)) ≡ true
-    go true e = append-right (arrangePart ((grouped isField (t ∷ ts)) .before)) (flat (sortBy label fs)) (flat-filled (sortBy label fs) (sort-filled label fs (rw (e, filled))) heads)
-    go false e = append-left (arrangePart ((grouped isField (t ∷ ts)) .before)) (flat (sortBy label fs)) (rw e)
+    go : (b : Bool) → isFieldKey t ≡ b → filled (arrangeFields (t ∷ ts)) ≡ true
+    go true e = append-right (arrangePart ((grouped isFieldKey (t ∷ ts)) .before)) (flat (sortBy label fs)) (flat-filled (sortBy label fs) (sort-filled label fs (rw (e, filled))) heads)
+    go false e = append-left (arrangePart ((grouped isFieldKey (t ∷ ts)) .before)) (flat (sortBy label fs)) (rw e)
 
 not-alone : (s : Tag) (ts : List Tag) → filled ts ≡ true → alone (s ∷ ts) ≡ false
 unfolding alone filled
@@ -191,8 +189,8 @@ abbrev Field : List Tag → Type 0
 Field g = (alone g ≡ false) × Lacks wrongValue g
 
 pub record Fields (ts : List Tag) : Type 0 where
-  pub part : Part ((grouped isField ts) .before)
-  pub fields : All Field ((grouped isField ts) .groups)
+  pub part : Part ((grouped isFieldKey ts) .before)
+  pub fields : All Field ((grouped isFieldKey ts) .groups)
 
 unfoldable pub Checked : List Tag → Type 0
 Checked [] = Unit {0}
@@ -234,14 +232,14 @@ part-arranged at (l ∷ ts) h = rw (h .0, languageOnly, partFault) (go (h .1))
 fields-arranged : (at : ℕ) (ts : List Tag) → Fields ts → fieldsFault at (arrangeFields ts) ≡ none
 unfolding fieldsFault fieldFault arrangeFields firstOf
 fields-arranged at ts f =
-    let g = grouped isField ts in
-    let h = grouped-lacks isField ts in
+    let g = grouped isFieldKey ts in
+    let h = grouped-lacks isFieldKey ts in
     let fs = sortBy label (g .groups) in
     let none-of = groups-none fieldFault [] (at + parts (arrangePart (g .before))) fs
     (all-impl Field (λ (x : List Tag). (alone x ≡ false) × ((n : ℕ) → fieldFault n x ≡ none)) (λ x k. (k .0, λ n. badTag-none 5 wrongValue n x (k .1))) fs (sort-all label Field (g .groups) (f .fields)))
     (ascending-fresh label fs (sort-ascending label (g .groups))) in
     rw (
-      regroup isField (arrangePart (g .before)) fs (part-all (λ (t : Tag). isField t ≡ false) (g .before) (h .0)) (sort-all label (Headed isField) (g .groups) (h .1)),
+      regroup isFieldKey (arrangePart (g .before)) fs (part-all (λ (t : Tag). isFieldKey t ≡ false) (g .before) (h .0)) (sort-all label (Headed isFieldKey) (g .groups) (h .1)),
       part-arranged at (g .before) (f .part),
     ) none-of
 

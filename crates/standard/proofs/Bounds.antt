@@ -1,24 +1,20 @@
 -- The places of refusals: inside the identifier or the table, so that an answer's place fits in 16 bits. Assumes nothing.
-use mathlib.Core.Path.{_≡_, refl, sym, ap, _∙_}
-use mathlib.Core.Bool.{Bool, true, false, cond, _&&_}
-use mathlib.Core.Logic.{_↔_, _⊎_, inl, inr}
-use mathlib.Core.List.{List, [], _∷_, _++_}
+use mathlib.Core.Path.{_≡_, refl}
+use mathlib.Core.Bool.{Bool, true, false, _&&_}
+use mathlib.Core.List.{List, [], _∷_}
 use mathlib.Core.Option.{Option, none, some, Option·some-ne-none}
-use Prim.Native.Nat.{ℕ, zero, suc, _+_, _≤_, _<_}
+use Prim.Native.Nat.{ℕ, suc, _+_, _≤_, _<_}
 use native.Mathlib.Omega.{arith}
 use lib.Dec.{eqb, leb, leb→le}
-use lib.ListN.{length, drop}
+use lib.ListN.{length}
 use Rattle.standard.specs.Tag.{Tag, same, label, onto}
-use Rattle.standard.specs.Grammar.{separator, lowerByte, grouped, withTag, flat, uTag, tTag, isSingleton, isField, kindOf, isVariant}
-use Rattle.standard.specs.Identifier.{Identifier, Tables, Answer, done, refused, bounded, size, filled, then, canonical, maximised, minimised, withThree, maximalThree, withoutUnknown, Three, minimalThree, parts}
-use Rattle.standard.specs.Reading.{Fault, firstOf, noBytes, tooLong, clean, unclean, badTag, wrongSize, member, Stage, accept, restFault, start, languageOnly, partFault, alone, groupsFault, wrongKeyword, wrongValue, fieldFault, fieldsFault, extensionFault, privateFault, isX, upTo, from, noLanguage, grammarFault, faultOf, split, Read, good, bad, readAs, read, identifierOf}
-use Rattle.standard.specs.Delivery.{Bytes, Made, result, refusal, Given, given}
-use Rattle.standard.specs.Calls.{Operation, canonicalise, maximise, minimise}
-use Rattle.standard.specs.Table.{TableFault, tablesOf, rows, rowsFault, clashFault, tooBig, inTable, firstTable, check, pieces, keyOf, above}
-use Rattle.standard.specs.Demand3.{ZeroOrTen}
+use Rattle.standard.specs.Grammar.{separator, lowerByte, grouped, withTag, flat, uTag, tTag, isSingleton, isFieldKey, kindOf, isVariant}
+use Rattle.standard.specs.Identifier.{parts}
+use Rattle.standard.specs.Reading.{Fault, firstOf, noBytes, tooLong, clean, unclean, badTag, wrongSize, member, Stage, accept, restFault, start, languageOnly, partFault, alone, groupsFault, wrongKeyword, wrongValue, fieldFault, fieldsFault, extensionFault, privateFault, isX, upTo, from, noLanguage, grammarFault, faultOf, split}
+use Rattle.standard.specs.Delivery.{Bytes}
+use Rattle.standard.specs.Table.{TableFault, rows, rowsFault, clashFault, tooBig, inTable, firstTable, check, pieces, keyOf, above}
 use Rattle.standard.proofs.Bytes.{true→T}
 use Rattle.standard.proofs.Round.{parts-append}
-use Rattle.standard.specs.Make.{operate, made, makeOf, make, listed, chainMade, chainFrom, afterCheck, canonicaliseMade, maximiseMade, minimiseMade, listMade, whole}
 
 -- a fault's place, if there is one, is below n
 unfoldable pub Below : ℕ → Option Fault → Type 0
@@ -109,8 +105,8 @@ grouped-parts p (t ∷ ts) = go (p t) (grouped-parts p ts)
 fields-below : (at : ℕ) (ts : List Tag) → Below (at + parts ts + 1) (fieldsFault at ts)
 unfolding fieldsFault fieldFault
 fields-below at ts =
-    let g = grouped isField ts in
-    let e = grouped-parts isField ts in
+    let g = grouped isFieldKey ts in
+    let e = grouped-parts isFieldKey ts in
     first-below _ _ _ (more _ (at + parts ts + 1) (partFault languageOnly at (g .before)) (omega arith) (part-below languageOnly at (g .before)))
     (more _ (at + parts ts + 1) (groupsFault fieldFault [] (at + parts (g .before)) (g .groups)) (omega arith)
     (groups-below 1 (omega arith) fieldFault (λ n k. more _ (n + parts k + 1) (badTag 5 wrongValue n k) (omega arith) (tag-below 5 wrongValue n k)) [] (at + parts (g .before)) (g .groups)))

@@ -1,16 +1,15 @@
 -- The shapes are kept by every operation, over tables of the right shape; so each result is read back.
 -- Assumes nothing.
-use mathlib.Core.Path.{_≡_, refl, sym, ap, _∙_, subst}
-use mathlib.Core.Bool.{Bool, true, false, cond, not, _&&_, _||_}
-use mathlib.Core.Logic.{_⊎_, inl, inr}
-use mathlib.Core.List.{List, [], _∷_, _++_, map}
+use mathlib.Core.Path.{_≡_, refl}
+use mathlib.Core.Bool.{Bool, true, false, cond}
+use mathlib.Core.List.{List, [], _∷_, map}
 use mathlib.Core.Option.{Option, none, some, Option·none-ne-some}
 use Prim.Native.Nat.{ℕ}
-use Rattle.standard.specs.Tag.{Tag, same, sortBy, itself, label, pick, replace}
-use Rattle.standard.specs.Grammar.{title, upper, Kind, aScript, aRegion, aVariant, kindOf, isLanguage, arrangeOne, arrange}
-use Rattle.standard.specs.Identifier.{Three, three, und, zzzz, zz, Identifier, Tables, languageAlias, aliased, canonicalVariants, canonicalForm, without, withoutUnknown, complete, row, over, overRow, maximalThree, trial, minimalThree, withThree}
+use Rattle.standard.specs.Tag.{Tag, same, itself, label, replace}
+use Rattle.standard.specs.Grammar.{title, upper, aScript, aRegion, aVariant, kindOf, isLanguage, arrangeOne, arrange}
+use Rattle.standard.specs.Identifier.{Three, und, zzzz, zz, Identifier, Tables, languageAlias, aliased, canonicalVariants, canonicalForm, withoutUnknown, complete, row, over, overRow, maximalThree, minimalThree, withThree}
 use Rattle.standard.specs.Reading.{extensionFault}
-use Rattle.standard.proofs.Tags.{All, all-map, sort-all, sort-ascending}
+use Rattle.standard.proofs.Tags.{all-map, sort-all, sort-ascending}
 use Rattle.standard.proofs.Core.{pick-either, without-either, row-value, shrink-cases}
 use Rattle.standard.proofs.Bytes.{bool-cases}
 use Rattle.standard.proofs.Shapes.{Word}

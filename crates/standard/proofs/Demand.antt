@@ -1,21 +1,20 @@
 -- The laws of demand 3, on bytes.
 -- Assumes nothing.
 use mathlib.Core.Path.{_≡_, refl, sym, ap, _∙_, subst}
-use mathlib.Core.Bool.{Bool, true, false}
+use mathlib.Core.Bool.{true}
 use mathlib.Core.Logic.{_↔_}
-use mathlib.Core.List.{List, [], _∷_}
-use mathlib.Core.Option.{Option, none, some}
+use mathlib.Core.List.{List}
 use Prim.Native.Nat.{ℕ, _≤_}
 use native.Mathlib.Omega.{arith}
 use lib.Dec.{leb}
 use lib.ListN.{length}
 use Rattle.standard.specs.Tag.{label}
-use Rattle.standard.specs.Identifier.{Three, Identifier, Tables, canonicalForm, withoutUnknown, maximalThree, minimalThree, size, subtags, Answer, done, refused, bounded, withThree, then, canonical, maximised, minimised, Good}
+use Rattle.standard.specs.Identifier.{Identifier, Tables, canonicalForm, withoutUnknown, minimalThree, size, subtags, Answer, done, refused, withThree, then, canonical, maximised, minimised, Good}
 use Rattle.standard.specs.Reading.{Read, good, bad, read, print, split}
-use Rattle.standard.specs.Delivery.{Bytes, Made, result, refusal, form}
+use Rattle.standard.specs.Delivery.{Bytes, result, form}
 use Rattle.standard.specs.Calls.{Operation, canonicalise, maximise, minimise, Call, AsAtFirst}
 use Rattle.standard.specs.Make.{operate, made, makeOf, make}
-use Rattle.standard.proofs.Operations.{bounded-done, done-eq, maximised-form, maximised-maximal, minimised-done, shrunk, Settled, canonical-settled, maximised-settled, minimised-settled}
+use Rattle.standard.proofs.Operations.{bounded-done, maximised-form, minimised-done, shrunk, Settled, canonical-settled, maximised-settled, minimised-settled}
 use Rattle.standard.proofs.Numbers.{refusal-not}
 use Rattle.standard.proofs.Calls.{Lasting, calls}
 use Rattle.standard.proofs.Minimal.{fewest}

@@ -1,21 +1,20 @@
 -- Where the reader finds no fault.
 -- Assumes nothing.
-use mathlib.Core.Path.{_≡_, refl, sym, ap, _∙_, subst}
-use mathlib.Core.Bool.{Bool, true, false, cond, not, _&&_, _||_}
+use mathlib.Core.Path.{_≡_, refl, sym, ap}
+use mathlib.Core.Bool.{Bool, true, false, _&&_}
 use mathlib.Core.Logic.{_⊎_, inl, inr}
-use mathlib.Core.List.{List, [], _∷_, _++_, map, cons≢nil}
+use mathlib.Core.List.{List, [], _∷_, _++_, cons≢nil}
 use mathlib.Core.Option.{Option, none, some, Option·none-ne-some, Option·some-ne-none}
-use Prim.Native.Nat.{ℕ, zero, suc, _+_, _<_, _≤_, compare, Ordering, Ordering·lt, Ordering·eq, Ordering·gt, compare·zero-zero, compare·zero-suc, compare·suc-zero, compare·suc-suc}
+use Prim.Native.Nat.{ℕ, zero, suc, _+_, _<_, compare, Ordering, Ordering·lt, Ordering·eq, Ordering·gt, compare·zero-suc, compare·suc-zero, compare·suc-suc}
 use native.Mathlib.Omega.{arith}
-use lib.Dec.{isEq}
 use lib.ListN.{length}
 use Rattle.standard.specs.Tag.{Tag, andThen, order, same, itself, label}
-use Rattle.standard.specs.Grammar.{Kind, aScript, aRegion, aVariant, aNone, sizeOf, kind, kindOf, variantKind, isVariant, isLanguage}
+use Rattle.standard.specs.Grammar.{Kind, aScript, aRegion, aVariant, aNone, sizeOf, kind, kindOf, variantKind, isVariant}
 use Rattle.standard.specs.Identifier.{parts}
-use Rattle.standard.specs.Reading.{optional, Fault, fault, firstOf, badTag, member, Stage, afterLanguage, afterScript, afterRegion, afterRoot, accept, restFault, partFault, alone, groupsFault}
-use Rattle.standard.proofs.Tags.{All, Ascending, flip, order-flip, compare-eq}
+use Rattle.standard.specs.Reading.{optional, Fault, fault, firstOf, badTag, member, Stage, afterLanguage, afterScript, afterRegion, accept, restFault, alone, groupsFault}
+use Rattle.standard.proofs.Tags.{All, Ascending, order-flip, compare-eq}
 use Rattle.standard.proofs.Groups.{Lacks}
-use Rattle.standard.proofs.Bytes.{clash, bool-cases}
+use Rattle.standard.proofs.Bytes.{clash}
 use Rattle.standard.proofs.Shapes.{known}
 
 -- The order is transitive.
@@ -150,14 +149,15 @@ pub record Rest (ts : List Tag) : Type 0 where
   pub a-region : Maybe aRegion region
   pub some-variants : Variants variants
 
-record Back (st : Stage) (t : Tag) (ts : List Tag) : Type 0 where
-  next : Stage
-  accepted : accept st (kindOf t) ≡ some next
-  seen : List Tag
-  at : ℕ
-  after : restFault next seen at ts ≡ none
+-- a subtag that can stand there, and the rest
+pub record Back (st : Stage) (t : Tag) (ts : List Tag) : Type 0 where
+  pub next : Stage
+  pub accepted : accept st (kindOf t) ≡ some next
+  pub seen : List Tag
+  pub at : ℕ
+  pub after : restFault next seen at ts ≡ none
 
-back : (st : Stage) (seen : List Tag) (at : ℕ) (t : Tag) (ts : List Tag) → restFault st seen at (t ∷ ts) ≡ none → Back st t ts
+pub back : (st : Stage) (seen : List Tag) (at : ℕ) (t : Tag) (ts : List Tag) → restFault st seen at (t ∷ ts) ≡ none → Back st t ts
 unfolding restFault
 back st seen at t ts e = go (accept st (kindOf t)) refl (isVariant t && member t seen) refl
   where
@@ -166,7 +166,7 @@ back st seen at t ts e = go (accept st (kindOf t)) refl (isVariant t && member t
     go (some n) f true g = absurd (Option·some-ne-none _ (rw (f, g, restFault) at e))
     go (some n) f false g = record { next = n; accepted = f; seen = _; at = _; after = rw (f, g, restFault) at e }
 
-nothing : {n : Stage} {P : Type 0} → _≡_ {A = Option Stage} none (some n) → P
+pub nothing : {n : Stage} {P : Type 0} → _≡_ {A = Option Stage} none (some n) → P
 nothing {n} e = absurd (Option·none-ne-some n e)
 
 none-variants : (seen : List Tag) (at : ℕ) (ts : List Tag) → restFault afterRegion seen at ts ≡ none → Variants ts

@@ -1,11 +1,11 @@
 -- The reader's definitions from left to right, as a loop over the input meets them.
 -- Assumes nothing.
-use mathlib.Core.Path.{_≡_, refl, sym, ap, _∙_}
-use mathlib.Core.Bool.{Bool, true, false, _&&_}
+use mathlib.Core.Path.{_≡_, refl, ap}
+use mathlib.Core.Bool.{Bool, true, false}
 use mathlib.Core.List.{List, [], _∷_, _++_, map}
 use Prim.Native.Nat.{ℕ}
 use Rattle.standard.specs.Tag.{Tag, onto}
-use Rattle.standard.specs.Grammar.{separator, lowerByte, Groups, withTag, grouped}
+use Rattle.standard.specs.Grammar.{separator, lowerByte, withTag, grouped}
 use Rattle.standard.specs.Reading.{split, upTo, from}
 use Rattle.standard.proofs.Tags.{All}
 use Rattle.standard.proofs.Bytes.{bool-cases}

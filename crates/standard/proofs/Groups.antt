@@ -1,13 +1,11 @@
 -- Laws of groups, and: extensions are in order after one arranging.
 -- Assumes nothing.
-use mathlib.Core.Path.{_≡_, refl, sym, ap, _∙_, subst}
-use mathlib.Core.Bool.{Bool, true, false, cond, not, _&&_, _||_}
-use mathlib.Core.List.{List, [], _∷_, _++_, map, append-nil, append-assoc}
-use Prim.Native.Nat.{ℕ}
-use native.Mathlib.Omega.{arith}
+use mathlib.Core.Path.{_≡_, refl, ap}
+use mathlib.Core.Bool.{Bool, true, false}
+use mathlib.Core.List.{List, [], _∷_, _++_, map, append-nil}
 use Rattle.standard.specs.Tag.{Tag, order, same, sortBy, itself, label}
-use Rattle.standard.specs.Grammar.{isVariant, isTwo, isField, uTag, tTag, trueTag, Groups, withTag, grouped, flat, only, others, dropTrue, arrangeKeywords, arrangePart, arrangeFields, arrangeOne, arrange}
-use Rattle.standard.proofs.Tags.{All, all-of, all-map, map-fixed, sort-ascending, sort-fixed, sort-all, settle-twice, same-eq}
+use Rattle.standard.specs.Grammar.{isVariant, isTwo, isFieldKey, uTag, tTag, trueTag, withTag, grouped, flat, only, others, dropTrue, arrangeKeywords, arrangePart, arrangeFields, arrangeOne, arrange}
+use Rattle.standard.proofs.Tags.{All, all-map, sort-ascending, sort-fixed, sort-all, settle-twice}
 
 abbrev pub Lacks : (Tag → Bool) → List Tag → Type 0
 Lacks p ts = All (λ (t : Tag). p t ≡ false) ts
@@ -156,11 +154,11 @@ part-all P (l ∷ ts) h =
 fields-twice : (ts : List Tag) → arrangeFields (arrangeFields ts) ≡ arrangeFields ts
 unfolding arrangeFields
 fields-twice ts =
-    let g = grouped isField ts in
-    let h = grouped-lacks isField ts in
+    let g = grouped isFieldKey ts in
+    let h = grouped-lacks isFieldKey ts in
     let fs = sortBy label (g .groups) in
     rw (
-      regroup isField (arrangePart (g .before)) fs (part-all (λ (t : Tag). isField t ≡ false) (g .before) (h .0)) (sort-all label (Headed isField) (g .groups) (h .1)),
+      regroup isFieldKey (arrangePart (g .before)) fs (part-all (λ (t : Tag). isFieldKey t ≡ false) (g .before) (h .0)) (sort-all label (Headed isFieldKey) (g .groups) (h .1)),
       part-twice (g .before),
       sort-fixed label fs (sort-ascending label (g .groups)),
     )

@@ -25,3 +25,4 @@ pub mod Cases
 pub mod Whole
 pub mod Bounds
 pub mod Dashes
+pub mod Long

@@ -1,24 +1,23 @@
 -- The chain on bytes: its printed lines end at und, are at most v + 11, and no two are equal.
 -- Assumes nothing.
-use mathlib.Core.Path.{_≡_, refl, sym, ap, _∙_, subst}
+use mathlib.Core.Path.{_≡_, refl, sym, ap, _∙_}
 use mathlib.Core.Bool.{Bool, true, false}
 use mathlib.Core.Logic.{_⊎_, inl, inr}
-use mathlib.Core.List.{List, [], _∷_, _++_, map, List·Memᴰ, List·Memᴰ·cases-cons, List·Memᴰ·not-nil, List·Memᴰ·head, List·Memᴰ·tail}
+use mathlib.Core.List.{List, [], _∷_, map, List·Memᴰ, List·Memᴰ·cases-cons, List·Memᴰ·not-nil, List·Memᴰ·head, List·Memᴰ·tail}
 use mathlib.Core.Option.{Option, none, some}
-use Prim.Native.Nat.{ℕ, zero, suc, _+_, _≤_}
-use native.Mathlib.Omega.{arith}
+use Prim.Native.Nat.{ℕ, zero, suc, _+_}
 use lib.ListN.{length}
-use Rattle.standard.specs.Tag.{Tag, itself, label}
-use Rattle.standard.specs.Grammar.{title, upper, Kind, aScript, aRegion, aVariant, kindOf, isLanguage, languageSize, sizeOf, every, small}
-use Rattle.standard.specs.Identifier.{Three, three, und, Identifier, Tables, Answer, done, canonical, canonicalForm}
-use Rattle.standard.specs.Reading.{print, split, identifierOf, privateFault, wrongSize, isX}
+use Rattle.standard.specs.Tag.{Tag, itself}
+use Rattle.standard.specs.Grammar.{title, upper, aScript, aRegion, aVariant, kindOf, isLanguage, languageSize, sizeOf, every, small}
+use Rattle.standard.specs.Identifier.{Three, three, und, Tables}
+use Rattle.standard.specs.Reading.{split, identifierOf, privateFault}
 use Rattle.standard.specs.Make.{identifier, printLine}
 use Rattle.standard.specs.Demand3.{Once}
 use Rattle.standard.specs.Chain.{Line, line, allButLast, shorter, parentOf, parent, isRoot, chain, GoodParents}
 use Rattle.standard.proofs.Tags.{All, Ascending}
 use Rattle.standard.proofs.Shapes.{Word}
 use Rattle.standard.proofs.Faults.{Variants}
-use Rattle.standard.proofs.Chain.{EndsAtRoot, Ends, chain-ends}
+use Rattle.standard.proofs.Chain.{chain-ends}
 use Rattle.standard.proofs.Round.{Shown, Shaped, Starts, Printable, unprint}
 use Rattle.standard.proofs.Sound.{shown-none}
 

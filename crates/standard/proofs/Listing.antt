@@ -1,14 +1,14 @@
 -- The chain's listing: its lines are those of its bytes, the last is `und`, no two are equal, and there are at most
 -- v + 11. Assumes nothing.
-use mathlib.Core.Path.{_≡_, refl, sym, ap, _∙_, subst}
-use mathlib.Core.Bool.{Bool, true, false, _&&_, not}
+use mathlib.Core.Path.{_≡_, refl, ap, _∙_, subst}
+use mathlib.Core.Bool.{Bool, true, false, not}
 use mathlib.Core.List.{List, [], _∷_, _++_, map}
-use mathlib.Core.Option.{Option, none, some, Option·some-ne-none}
-use Prim.Native.Nat.{ℕ, zero, suc, _+_, _≤_}
+use mathlib.Core.Option.{none, some, Option·some-ne-none}
+use Prim.Native.Nat.{ℕ, suc, _+_, _≤_}
 use native.Mathlib.Omega.{arith}
 use lib.Dec.{eqb, eqb→eq}
 use lib.ListN.{length}
-use Rattle.standard.specs.Tag.{Tag, same, present, onto}
+use Rattle.standard.specs.Tag.{Tag, present, onto}
 use Rattle.standard.specs.Grammar.{small, capital, digit, separator, flat}
 use Rattle.standard.specs.Identifier.{Three, und, Tables}
 use Rattle.standard.specs.Reading.{clean, unclean, optional, rest, tags, joined, print}
@@ -19,8 +19,8 @@ use Rattle.standard.specs.Table.{pieces, rows}
 use Rattle.standard.specs.Make.{identifier, printLine, listing}
 use Rattle.standard.proofs.Tags.{All, all-map, same-eq}
 use Rattle.standard.proofs.Bytes.{clash, and-true, true→T, bool-cases}
-use Rattle.standard.proofs.Chain.{EndsAtRoot, Ends, chain-ends}
-use Rattle.standard.proofs.Round.{clean-none, Shaped, all-impl}
+use Rattle.standard.proofs.Chain.{EndsAtRoot, chain-ends}
+use Rattle.standard.proofs.Round.{clean-none, Shaped}
 use Rattle.standard.proofs.Lines.{Plain, plain-printable, chain-plain, demand-chain}
 use Rattle.standard.proofs.Table.{pieces-append}
 

@@ -1,21 +1,21 @@
 -- The numbers of refusals: reading's are 1 to 7, the tables' 11 to 14, and no refusal has a result's numbers, 0 and 10.
 -- So an answer is 0 or 10 exactly where there is a result. Assumes nothing.
-use mathlib.Core.Path.{_≡_, refl, sym, ap, _∙_}
+use mathlib.Core.Path.{_≡_, refl}
 use mathlib.Core.Bool.{Bool, true, false, cond, _&&_}
 use mathlib.Core.Logic.{_↔_, _⊎_, inl, inr}
-use mathlib.Core.List.{List, [], _∷_, _++_}
+use mathlib.Core.List.{List, [], _∷_}
 use mathlib.Core.Option.{Option, none, some}
-use Prim.Native.Nat.{ℕ, zero, suc, _+_, _≤_, _<_}
+use Prim.Native.Nat.{ℕ, suc, _+_, _≤_, _<_}
 use native.Mathlib.Omega.{arith}
 use lib.Dec.{leb}
-use lib.ListN.{length, drop}
+use lib.ListN.{length}
 use Rattle.standard.specs.Tag.{Tag, same, label}
-use Rattle.standard.specs.Grammar.{grouped, uTag, tTag, isSingleton, isField, kindOf, isVariant}
-use Rattle.standard.specs.Identifier.{Identifier, Tables, Answer, done, refused, bounded, size, filled, then, canonical, maximised, minimised, withThree, maximalThree, withoutUnknown, Three, minimalThree, parts}
+use Rattle.standard.specs.Grammar.{grouped, uTag, tTag, isSingleton, isFieldKey, kindOf, isVariant}
+use Rattle.standard.specs.Identifier.{Identifier, Tables, Answer, done, refused, bounded, size, filled, then, canonical, maximised, minimised, withThree, Three, parts}
 use Rattle.standard.specs.Reading.{Fault, firstOf, noBytes, tooLong, clean, unclean, badTag, wrongSize, member, Stage, accept, restFault, start, languageOnly, partFault, alone, groupsFault, wrongKeyword, wrongValue, fieldFault, fieldsFault, extensionFault, privateFault, isX, upTo, from, noLanguage, grammarFault, faultOf, split, Read, good, bad, readAs, read, identifierOf}
-use Rattle.standard.specs.Delivery.{Bytes, Made, result, refusal, Given, given}
+use Rattle.standard.specs.Delivery.{Bytes, Made, result, refusal, given}
 use Rattle.standard.specs.Calls.{Operation, canonicalise, maximise, minimise}
-use Rattle.standard.specs.Table.{TableFault, tablesOf, rowsFault, clashFault, tooBig, inTable, firstTable, check, pieces, keyOf, above}
+use Rattle.standard.specs.Table.{TableFault, rowsFault, clashFault, tooBig, inTable, firstTable, check, pieces, keyOf, above}
 use Rattle.standard.specs.Demand3.{ZeroOrTen}
 use Rattle.standard.specs.Make.{operate, made, makeOf, make, listed, chainMade, chainFrom, afterCheck, canonicaliseMade, maximiseMade, minimiseMade, listMade, whole}
 
@@ -85,8 +85,8 @@ groups-within inner h seen at (g ∷ gs) = go (member (label g) seen) (alone g) 
 fields-within : (at : ℕ) (ts : List Tag) → Within 1 7 (fieldsFault at ts)
 unfolding fieldsFault fieldFault
 fields-within at ts =
-    first-within _ _ (part-within languageOnly at ((grouped isField ts) .before))
-    (groups-within fieldFault (λ n g. tag-within 5 wrongValue n g (omega arith) (omega arith)) [] (at + parts ((grouped isField ts) .before)) ((grouped isField ts) .groups))
+    first-within _ _ (part-within languageOnly at ((grouped isFieldKey ts) .before))
+    (groups-within fieldFault (λ n g. tag-within 5 wrongValue n g (omega arith) (omega arith)) [] (at + parts ((grouped isFieldKey ts) .before)) ((grouped isFieldKey ts) .groups))
 
 extension-within : (at : ℕ) (g : List Tag) → Within 1 7 (extensionFault at g)
 unfolding extensionFault Within

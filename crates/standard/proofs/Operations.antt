@@ -1,16 +1,14 @@
 -- Laws of canonicalising, maximising and minimising an identifier.
 -- Assumes nothing.
-use mathlib.Core.Path.{_≡_, refl, sym, ap, _∙_, subst}
-use mathlib.Core.Bool.{Bool, true, false, not, _&&_, cond}
-use mathlib.Core.Logic.{_↔_, _⊎_, inl, inr}
-use mathlib.Core.List.{List, [], _∷_}
-use mathlib.Core.Option.{Option, none, some, Option·none-ne-some}
-use Prim.Native.Nat.{ℕ, suc, _+_, _≤_}
+use mathlib.Core.Path.{_≡_, refl, sym, _∙_, subst}
+use mathlib.Core.Bool.{Bool, true, false}
+use mathlib.Core.Logic.{_↔_}
+use mathlib.Core.Option.{Option, none, some}
+use Prim.Native.Nat.{ℕ, _≤_}
 use native.Mathlib.Omega.{arith}
 use lib.Dec.{leb, T, leb→le, le→leb}
-use lib.ListN.{length}
-use Rattle.standard.specs.Tag.{Tag, itself, same, pick, present, replace}
-use Rattle.standard.specs.Identifier.{Three, three, Identifier, Tables, aliased, canonicalVariants, canonicalForm, withoutUnknown, maximalThree, trial, minimalThree, part, size, Answer, done, refused, bounded, withThree, filled, then, canonical, maximised, minimised, Kept, Good}
+use Rattle.standard.specs.Tag.{itself, replace}
+use Rattle.standard.specs.Identifier.{Three, Identifier, Tables, aliased, canonicalVariants, canonicalForm, withoutUnknown, maximalThree, trial, minimalThree, part, size, Answer, done, refused, bounded, withThree, filled, then, canonical, maximised, minimised, Kept, Good}
 use Rattle.standard.proofs.Groups.{arrange-twice}
 use Rattle.standard.proofs.Tags.{settle-twice, replace-twice}
 use Rattle.standard.proofs.Core.{Full, kept-fixed, aliased-kept, maximal-full, full-filled, shrink-cases, shrink-kept, shrink-filled}

@@ -1,24 +1,24 @@
 -- What is printed is read back.
 -- Assumes nothing.
-use mathlib.Core.Path.{_≡_, refl, sym, ap, _∙_, subst}
-use mathlib.Core.Bool.{Bool, true, false, cond, not, _&&_, _||_}
+use mathlib.Core.Path.{_≡_, refl, sym, ap, _∙_}
+use mathlib.Core.Bool.{Bool, true, false}
 use mathlib.Core.Logic.{_⊎_, inl, inr}
-use mathlib.Core.List.{List, [], _∷_, _++_, map, cons≢nil, append-assoc}
-use mathlib.Core.Option.{Option, none, some}
-use Prim.Native.Nat.{ℕ, suc, _+_, _≤_}
+use mathlib.Core.List.{List, [], _∷_, _++_, cons≢nil, append-assoc}
+use mathlib.Core.Option.{none}
+use Prim.Native.Nat.{ℕ, suc, _+_}
 use native.Mathlib.Omega.{arith}
 use lib.Dec.{leb}
 use lib.ListN.{length, length-append}
 use Rattle.standard.specs.Tag.{Tag, itself, label}
-use Rattle.standard.specs.Grammar.{title, upper, every, Kind, aScript, aRegion, aVariant, aNone, kindOf, sizeOf, languageSize, variantKind, isVariant, isLanguage, isSingleton, grouped, flat, only}
-use Rattle.standard.specs.Identifier.{Three, three, Identifier, part, parts, size, one, subtags}
-use Rattle.standard.specs.Reading.{optional, rest, tags, joined, print, split, firstOf, noBytes, tooLong, unclean, badTag, wrongSize, Stage, afterLanguage, start, restFault, partFault, alone, groupsFault, extensionFault, privateFault, isX, upTo, from, noLanguage, grammarFault, faultOf, ofKind, find, coreOf, afterFirst, identifierOf, Read, good, bad, readAs, read}
+use Rattle.standard.specs.Grammar.{title, upper, Kind, aScript, aRegion, aVariant, kindOf, sizeOf, languageSize, variantKind, isVariant, isLanguage, isSingleton, grouped, flat, only}
+use Rattle.standard.specs.Identifier.{Three, Identifier, part, parts, size, one, subtags}
+use Rattle.standard.specs.Reading.{optional, rest, tags, joined, print, split, firstOf, noBytes, tooLong, unclean, wrongSize, start, partFault, alone, groupsFault, extensionFault, privateFault, isX, upTo, from, noLanguage, grammarFault, faultOf, ofKind, find, coreOf, afterFirst, identifierOf, good, readAs, read}
 use Rattle.standard.proofs.Tags.{All, Ascending}
-use Rattle.standard.proofs.Groups.{Lacks, Has, Headed, regroup, all-append, only-parts}
-use Rattle.standard.proofs.Bytes.{clash, bool-cases, word}
+use Rattle.standard.proofs.Groups.{Lacks, Headed, regroup, all-append, only-parts}
+use Rattle.standard.proofs.Bytes.{clash}
 use Rattle.standard.proofs.Split.{Printed, no-byte, byte, AllPrinted, no-tag, tag, split-joined, unclean-joined, length-joined, printed-append, printed-length}
 use Rattle.standard.proofs.Shapes.{known, Usual, kind-usual, language-usual, Word, printed-word, printed-language, printed-script, printed-region}
-use Rattle.standard.proofs.Faults.{Fresh, ascending-fresh, badTag-none, Variants, kind-variant, Maybe, rest-none, groups-none}
+use Rattle.standard.proofs.Faults.{ascending-fresh, badTag-none, Variants, kind-variant, Maybe, rest-none, groups-none}
 
 -- a stored script or region, and its subtag in lower case
 pub record Shown (k : Kind) (f : Tag → Tag) (s : Tag) : Type 0 where

@@ -1,23 +1,22 @@
 -- What was read has the shapes that printing wants, but for the order.
 -- Assumes nothing.
-use mathlib.Core.Path.{_≡_, refl, sym, ap, _∙_, subst}
-use mathlib.Core.Bool.{Bool, true, false, cond, not, _&&_, _||_}
-use mathlib.Core.Logic.{_⊎_, inl, inr}
-use mathlib.Core.List.{List, [], _∷_, _++_, map, cons≢nil}
+use mathlib.Core.Path.{_≡_, refl, sym}
+use mathlib.Core.Bool.{Bool, true, false}
+use mathlib.Core.Logic.{inl, inr}
+use mathlib.Core.List.{List, [], _∷_}
 use mathlib.Core.Option.{Option, none, some, Option·some-ne-none}
-use Prim.Native.Nat.{ℕ, suc, _+_, _≤_}
+use Prim.Native.Nat.{ℕ, suc}
 use native.Mathlib.Omega.{arith}
-use lib.ListN.{length}
-use Rattle.standard.specs.Tag.{Tag, order, same, label, onto}
-use Rattle.standard.specs.Grammar.{small, separator, lowerByte, every, title, upper, Kind, aScript, aRegion, aVariant, aNone, sizeOf, languageSize, kindOf, variantKind, isVariant, isLanguage, isSingleton, Groups, grouped, only}
-use Rattle.standard.specs.Identifier.{Three, three, und, Identifier, parts}
-use Rattle.standard.specs.Reading.{split, Fault, firstOf, noBytes, tooLong, clean, unclean, badTag, wrongSize, Stage, afterLanguage, afterScript, afterRoot, root, start, restFault, partFault, alone, groupsFault, extensionFault, privateFault, isX, upTo, from, noLanguage, grammarFault, faultOf, ofKind, find, coreOf, afterFirst, identifierOf, Read, good, bad, readAs, read}
+use Rattle.standard.specs.Tag.{Tag, order, same, onto}
+use Rattle.standard.specs.Grammar.{small, separator, lowerByte, every, title, upper, Kind, aScript, aRegion, aVariant, aNone, sizeOf, languageSize, kindOf, variantKind, isVariant, isLanguage, isSingleton, grouped, only}
+use Rattle.standard.specs.Identifier.{three, und, Identifier}
+use Rattle.standard.specs.Reading.{split, Fault, noBytes, tooLong, clean, unclean, badTag, wrongSize, root, start, partFault, alone, extensionFault, privateFault, isX, upTo, from, grammarFault, faultOf, ofKind, find, coreOf, afterFirst, identifierOf, good, bad, readAs, read}
 use Rattle.standard.proofs.Tags.{All}
-use Rattle.standard.proofs.Groups.{Lacks, Has, Headed, grouped-lacks, only-all, only-has}
-use Rattle.standard.proofs.Bytes.{clash, bool-cases, and-true, word, lower-word}
+use Rattle.standard.proofs.Groups.{Lacks, Headed, grouped-lacks, only-all, only-has}
+use Rattle.standard.proofs.Bytes.{bool-cases, word, lower-word}
 use Rattle.standard.proofs.Shapes.{Word}
 use Rattle.standard.proofs.Faults.{Variants, Maybe, none-badTag, none-groups}
-use Rattle.standard.proofs.Round.{Shown, Shaped, Extension, Starts, Private, all-impl, all-both}
+use Rattle.standard.proofs.Round.{Shown, Shaped, Extension, Starts, Private, all-impl}
 use Rattle.standard.proofs.Arranged.{firstOf-none, grouped-all, Checked, extension-read}
 
 -- an identifier as read

@@ -2,11 +2,10 @@
 -- Assumes nothing.
 use mathlib.Core.Path.{_≡_, refl, sym, ap, _∙_, subst}
 use mathlib.Core.Bool.{Bool, true, false, not, _&&_, _||_, or-false}
-use mathlib.Core.Logic.{_⊎_, inl, inr}
-use mathlib.Core.List.{List, [], _∷_, _++_, map, cons≢nil, nil≢cons, append-assoc, head-eq-of-cons-eq, tail-eq-of-cons-eq}
+use mathlib.Core.Logic.{inr}
+use mathlib.Core.List.{List, [], _∷_, _++_, cons≢nil, append-assoc, head-eq-of-cons-eq, tail-eq-of-cons-eq}
 use mathlib.Core.Option.{Option, none, some, Option·none-ne-some, Option·some-ne-none}
 use Prim.Native.Nat.{ℕ, suc, _+_}
-use native.Mathlib.Omega.{arith}
 use lib.Dec.{T, eqb, eqb→eq, eqb-refl}
 use lib.ListN.{length}
 use Rattle.standard.specs.Tag.{Tag, order, same, present, replace, onto}
@@ -14,11 +13,10 @@ use Rattle.standard.specs.Grammar.{every, title, upper, Kind, aScript, a
 use Rattle.standard.specs.Identifier.{Three, three, und, Tables, withoutUnknown, complete, sameThree, Kept, Good}
 use Rattle.standard.specs.Reading.{optional, joined, Fault, ofKind}
 use Rattle.standard.specs.Chain.{line, parentOf, parent, isRoot, reaches, GoodParents}
-use Rattle.standard.specs.Table.{pieces, after, lookup, rows, lower, inCanonicalCase, findInCase, threeOf, parse, printThree, isThree, languageKey, scriptKey, regionKey, variantKey, parsed, tablesOf, isWord, isUnd, isVariantTag, aliasShape, likelyShape, parentShape, isNone, unaliased, aliasFree, likelyFree, parentFree, keyOf, above, rowsFault, clashFault, tooBig, TableFault, inTable, firstTable, check}
+use Rattle.standard.specs.Table.{pieces, after, lookup, rows, lower, inCanonicalCase, findInCase, threeOf, parse, printThree, isThree, languageKey, scriptKey, regionKey, variantKey, parsed, tablesOf, isWord, isUnd, isVariantTag, aliasShape, likelyShape, parentShape, isNone, unaliased, aliasFree, likelyFree, parentFree, keyOf, above, rowsFault, clashFault, TableFault, inTable, firstTable, check}
 use Rattle.standard.proofs.Tags.{same-eq}
 use Rattle.standard.proofs.Core.{sameThree-eq}
 use Rattle.standard.proofs.Bytes.{clash, bool-cases, and-true, true→T, T→true, word}
-use Rattle.standard.proofs.Shapes.{Word}
 use Rattle.standard.proofs.Faults.{Maybe}
 use Rattle.standard.proofs.Round.{Shown, Shaped}
 use Rattle.standard.proofs.Sound.{ofKind-eq, shown-none}
@@ -150,7 +148,7 @@ pub record Passed (A L P : List ℕ) : Type 0 where
   pub likely-free : Pass (likelyFree (tablesOf A L P)) (rows L)
   pub parent-free : Pass (parentFree (tablesOf A L P)) (rows P)
 
-firstTable-none : (a b : Option TableFault) → firstTable a b ≡ none → (a ≡ none) × (b ≡ none)
+pub firstTable-none : (a b : Option TableFault) → firstTable a b ≡ none → (a ≡ none) × (b ≡ none)
 unfolding firstTable
 firstTable-none none b e = (refl, e)
 firstTable-none (some f) b e = absurd (Option·some-ne-none f e)

@@ -57,7 +57,8 @@ pub record Demand3 (A L P : Bytes) : Type 0 where
   pub forms : (x y m n : Bytes) → whole A L P maximise x ≡ form m → whole A L P maximise y ≡ form n
       → (q : Bytes) × (r : Bytes) × (whole A L P minimise x ≡ form q) × (whole A L P minimise y ≡ form r) × ((q ≡ r) ↔ (m ≡ n))
   -- "Minimised forms are shortest": n, the minimised form of x, has the fewest subtags, all counted, of the canonical
-  -- identifiers y with its language and its maximised form.
+  -- identifiers y with its language and its maximised form. (Without the language it fails of `und`, where tables give
+  -- it a language that has no row of its own.)
   pub fewest : (x n y m : Bytes) → whole A L P minimise x ≡ form n → whole A L P maximise x ≡ form m
       → whole A L P canonicalise y ≡ form y → whole A L P maximise y ≡ form m → label (split y) ≡ label (split n)
       → length (split n) ≤ length (split y)

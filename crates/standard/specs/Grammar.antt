@@ -118,19 +118,19 @@ isSingleton t = oneSize (sizeOf t)
 unfoldable pub isTwo : Tag → Bool
 isTwo t = twoSize (sizeOf t)
 
--- 01: a key of `u` is a letter or digit, then a letter.
-unfoldable pub isKeyword : Tag → Bool
-isKeyword (a ∷ b ∷ []) = small b
-isKeyword [] = false
-isKeyword (a ∷ []) = false
-isKeyword (a ∷ b ∷ c ∷ t) = false
+-- 01: a key of `u` is a letter or digit, then a letter (number 3 leaves only letters and digits).
+unfoldable pub isKeywordKey : Tag → Bool
+isKeywordKey (a ∷ b ∷ []) = small b
+isKeywordKey [] = false
+isKeywordKey (a ∷ []) = false
+isKeywordKey (a ∷ b ∷ c ∷ t) = false
 
 -- 01: a key of `t` is a letter, then a digit.
-unfoldable pub isField : Tag → Bool
-isField (a ∷ b ∷ []) = small a && digit b
-isField [] = false
-isField (a ∷ []) = false
-isField (a ∷ b ∷ c ∷ t) = false
+unfoldable pub isFieldKey : Tag → Bool
+isFieldKey (a ∷ b ∷ []) = small a && digit b
+isFieldKey [] = false
+isFieldKey (a ∷ []) = false
+isFieldKey (a ∷ b ∷ c ∷ t) = false
 
 abbrev pub uTag : Tag
 uTag = 117 ∷ []
@@ -181,7 +181,8 @@ dropTrue (k ∷ []) = k ∷ []
 dropTrue (k ∷ v ∷ []) = elim (same v trueTag) [ true ↦ k ∷ [] | false ↦ k ∷ v ∷ [] ]
 dropTrue (k ∷ v ∷ w ∷ ws) = k ∷ v ∷ w ∷ ws
 
--- 01, Canonical form, 4: in `u` attributes in byte order, keywords by key; repeats dropped.
+-- 01, Canonical form, 4: in `u` attributes in byte order, keywords by key. 01, How an identifier is read: of repeats the
+-- first stands.
 unfoldable pub arrangeKeywords : List Tag → List Tag
 arrangeKeywords ts =
     let g = grouped isTwo ts in
@@ -195,7 +196,7 @@ arrangePart (l ∷ ts) = l ∷ (others isVariant ts ++ sortBy itself (only isVar
 -- 01, Canonical form, 4: in `t` the language part, then fields by key.
 unfoldable pub arrangeFields : List Tag → List Tag
 arrangeFields ts =
-    let g = grouped isField ts in
+    let g = grouped isFieldKey ts in
     arrangePart (g .before) ++ flat (sortBy label (g .groups))
 
 -- one extension, its singleton first; others than `u` and `t` keep their order

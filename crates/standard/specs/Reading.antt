@@ -1,13 +1,13 @@
 -- Reading bytes into an identifier, and printing it.
 -- Assumes nothing.
-use mathlib.Core.Bool.{Bool, true, false, cond, not, _&&_, _||_}
-use mathlib.Core.List.{List, [], _∷_, _++_, map}
+use mathlib.Core.Bool.{Bool, true, false, not, _&&_, _||_}
+use mathlib.Core.List.{List, [], _∷_, _++_}
 use mathlib.Core.Option.{Option, none, some}
 use Prim.Native.Nat.{ℕ, suc, _+_}
 use lib.Dec.{leb}
 use lib.ListN.{length}
 use Rattle.standard.specs.Tag.{Tag, same, label, onto}
-use Rattle.standard.specs.Grammar.{small, capital, digit, separator, lowerByte, title, upper, wrongLength, sizeOf, isLanguage, Kind, aScript, aRegion, aVariant, aNone, kindOf, isVariant, isSingleton, isTwo, isKeyword, isField, uTag, tTag, xTag, grouped, flat, only}
+use Rattle.standard.specs.Grammar.{small, capital, digit, separator, lowerByte, title, upper, wrongLength, sizeOf, isLanguage, Kind, aScript, aRegion, aVariant, aNone, kindOf, isVariant, isSingleton, isTwo, isKeywordKey, isFieldKey, uTag, tTag, xTag, grouped, flat, only}
 use Rattle.standard.specs.Identifier.{Three, three, und, Identifier, parts}
 
 -- a subtag, if it is there
@@ -150,10 +150,10 @@ groupsFault inner seen at (g ∷ gs) =
 
 -- of two bytes, and no key of `u`; and no key of `t`
 unfoldable pub wrongKeyword : Tag → Bool
-wrongKeyword t = isTwo t && not (isKeyword t)
+wrongKeyword t = isTwo t && not (isKeywordKey t)
 
 unfoldable pub wrongValue : Tag → Bool
-wrongValue t = isTwo t && not (isField t)
+wrongValue t = isTwo t && not (isFieldKey t)
 
 -- a field is its key and subtags of 3 to 8 bytes
 unfoldable pub fieldFault : ℕ → List Tag → Option Fault
@@ -162,7 +162,7 @@ fieldFault at g = badTag 5 wrongValue at g
 -- `t`: a language part, then fields with different keys
 unfoldable pub fieldsFault : ℕ → List Tag → Option Fault
 fieldsFault at ts =
-    let g = grouped isField ts in
+    let g = grouped isFieldKey ts in
     firstOf (partFault languageOnly at (g .before)) (groupsFault fieldFault [] (at + parts (g .before)) (g .groups))
 
 -- the faults inside one extension: `u`, `t`, any other

@@ -6,11 +6,11 @@ use mathlib.Core.Option.{Option, none, some}
 use Prim.Native.Nat.{ℕ, suc, _+_}
 use lib.Dec.{eqb, leb}
 use lib.ListN.{length}
-use Prim.Native.Nat.{Ordering, Ordering·lt, Ordering·eq, Ordering·gt}
-use Rattle.standard.specs.Tag.{Tag, order, same, present, onto}
+use Prim.Native.Nat.{Ordering·lt, Ordering·eq, Ordering·gt}
+use Rattle.standard.specs.Tag.{Tag, order, same, onto}
 use Rattle.standard.specs.Grammar.{lowerByte, every, small, digit, title, upper, Kind, aScript, aRegion, aVariant, kindOf, isLanguage}
 use Rattle.standard.specs.Identifier.{Three, three, und, Tables, withoutUnknown, complete, sameThree}
-use Rattle.standard.specs.Reading.{optional, joined, Fault, fault, firstOf, ofKind}
+use Rattle.standard.specs.Reading.{optional, joined, Fault, fault, ofKind}
 use Rattle.standard.specs.Chain.{line, reaches}
 
 -- the pieces between separators
@@ -122,6 +122,7 @@ unfoldable pub isVariantTag : Tag → Bool
 isVariantTag t = ofKind aVariant (kindOf t) && isWord t
 
 -- 01, Aliases: kind, key, value; a language value is language, perhaps script, perhaps region; other values one subtag.
+-- `und` is neither a key nor a value's language.
 unfoldable pub aliasShape : List Tag → Bool
 aliasShape [] = false
 aliasShape (a ∷ []) = false
@@ -147,12 +148,12 @@ parentShape (a ∷ []) = false
 parentShape (key ∷ value ∷ []) = isThree key && (not (same key und) && isThree value)
 parentShape (a ∷ b ∷ c ∷ d) = false
 
--- 14: rows that clash.
+-- nothing was found
 unfoldable pub isNone : {A : Type 0} → Option A → Bool
 isNone none = true
 isNone (some a) = false
 
--- aliases replace none of the three
+-- 14: aliases replace none of the three (no row of right shape has an empty key, which an absent subtag would be)
 unfoldable pub unaliased : Tables → Three → Bool
 unaliased T t = isNone (T .languages (t .language)) && (isNone (T .scripts (t .script)) && isNone (T .regions (t .region)))
 

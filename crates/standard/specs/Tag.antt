@@ -32,7 +32,8 @@ unfoldable pub insertBy : {A : Type 0} → (A → Tag) → A → List A → List
 insertBy key x [] = x ∷ []
 insertBy key x (y ∷ ys) = elim (order (key x) (key y)) [ Ordering·lt ↦ x ∷ y ∷ ys | Ordering·eq ↦ x ∷ ys | Ordering·gt ↦ y ∷ insertBy key x ys ]
 
--- Ascending by key; of several with one key the first stands (01, Canonical form, 4; RFC 6067 for `u`).
+-- Ascending by key (01, Canonical form, 4); of several with one key the first stands (01, How an identifier is read, of
+-- `u`; 01, Canonical form, 3, of variants, where equal ones merge).
 unfoldable pub sortBy : {A : Type 0} → (A → Tag) → List A → List A
 sortBy key [] = []
 sortBy key (x ∷ xs) = insertBy key x (sortBy key xs)

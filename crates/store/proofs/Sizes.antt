@@ -2,20 +2,20 @@
 use mathlib.Core.Path.{_≡_, refl, _∙_, subst}
 use mathlib.Core.Bool.{Bool, true, false, cond}
 use mathlib.Core.List.{[], _++_}
-use mathlib.Core.Option.{Option, none, some, Option·some-ne-none}
-use Prim.Native.Nat.{ℕ, _≤_, _<_}
+use mathlib.Core.Option.{Option, none, some}
+use Prim.Native.Nat.{ℕ, _<_}
 use native.Mathlib.Omega.{arith}
-use lib.Dec.{leb, leb→le}
+use lib.Dec.{leb}
 use lib.ListN.{length, drop}
 use Rattle.standard.specs.Delivery.{Bytes, Made, result, refusal, Given, given}
 use Rattle.standard.specs.Identifier.{Identifier, Tables, Three, Answer, done, refused, bounded, size, filled, then, withThree, canonical, maximised, minimised}
-use Rattle.standard.specs.Reading.{Fault, firstOf, noBytes, tooLong, faultOf, Read, good, bad, readAs, read, print, identifierOf, split}
+use Rattle.standard.specs.Reading.{Fault, faultOf, Read, good, bad, readAs, read, print, identifierOf, split}
 use Rattle.standard.specs.Calls.{Operation, canonicalise, maximise, minimise}
 use Rattle.standard.specs.Table.{TableFault, tablesOf, check}
 use Rattle.standard.specs.Make.{operate, made, makeOf, make, listed, chainMade, chainFrom, afterCheck, canonicaliseMade, maximiseMade, minimiseMade, listMade}
-use Rattle.standard.proofs.Bytes.{true→T}
 use Rattle.standard.proofs.Numbers.{Within, fault-within, TableWithin, check-within}
 use Rattle.standard.proofs.Bounds.{Below, fault-below, AllNamed, check-named}
+use Rattle.standard.proofs.Long.{read-short}
 use Rattle.standard.proofs.Demand.{result-of}
 use Rattle.standard.proofs.Table.{passed, good-tables, shaped-tables}
 use Rattle.standard.proofs.Whole.{narrow-aliases, narrow-likely}
@@ -64,33 +64,6 @@ read-small x n p e = go (faultOf x) (fault-within x) (fault-below x) e
     go : (o : Option Fault) → Within 1 7 o → Below 600 o → readAs o (identifierOf (split x)) ≡ bad n p → (n < 256) × ((p < 65536) × (0 < 256))
     go none w b q = good-not q
     go (some f) w b q = let z = bad-one q in (omega (arith, w .1, z .0), (omega (arith, b, z .1), omega arith))
-
--- what is read is no longer than 255 bytes
-second-none : (a b c : Option Fault) → firstOf a (firstOf b c) ≡ none → b ≡ none
-unfolding firstOf
-second-none none none c e = refl
-second-none none (some f) c e = absurd (Option·some-ne-none _ e)
-second-none (some f) b c e = absurd (Option·some-ne-none _ e)
-
-not-long : (x : Bytes) → tooLong x ≡ none → length x ≤ 255
-unfolding tooLong
-not-long x e = go (leb (length x) 255) refl e
-  where
-    go : (b : Bool) → leb (length x) 255 ≡ b → _≡_ {A = Option Fault} (elim b [ true ↦ none | false ↦ some (record { number = 2; place = 0 }) ]) none → length x ≤ 255
-    go true f q = leb→le _ _ (true→T _ f)
-    go false f q = absurd (Option·some-ne-none _ q)
-
-no-fault : (o : Option Fault) (i j : Identifier) → readAs o i ≡ good j → o ≡ none
-unfolding readAs
-no-fault none i j e = refl
-no-fault (some f) i j e = bad-not e
-  where
-    bad-not : {a b : ℕ} {Q : Type 0} → bad a b ≡ good j → Q
-    bad-not q = let z : _≡_ {A = ℕ} 0 1 = cc in absurd (omega arith)
-
-read-short : (x : Bytes) (i : Identifier) → read x ≡ good i → length x ≤ 255
-unfolding read faultOf
-read-short x i e = not-long x (second-none (noBytes x) (tooLong x) _ (no-fault (faultOf x) _ i e))
 
 -- 8 and 9
 unfoldable SmallAnswer : Answer → Type 0

@@ -9,7 +9,7 @@ use lib.Dec.{eqb}
 use lib.ListN.{length}
 use borrow.Author.Tests.{le-leb, lt-leb, eq-eqb, ne-eqb, eqb-true, eqb-false}
 use Rattle.standard.specs.Tag.{Tag}
-use Rattle.standard.specs.Grammar.{small, digit, every, startsWithDigit, Size, empty, one, two, three, four, several, long, sizeOf, languageSize, wrongLength, oneSize, twoSize, isLanguage, aScript, aRegion, aVariant, aNone, kind, kindOf, isSingleton, isTwo, isKeyword, isField}
+use Rattle.standard.specs.Grammar.{small, digit, every, startsWithDigit, Size, empty, one, two, three, four, several, long, sizeOf, languageSize, wrongLength, oneSize, twoSize, isLanguage, aScript, aRegion, aVariant, aNone, kind, kindOf, isSingleton, isTwo, isKeywordKey, isFieldKey}
 use Rattle.standard.specs.Reading.{wrongSize}
 use Rattle.subtag.specs.declared.Subtag.{Subtag}
 use Rattle.subtag.specs.declared.Class.{Class}
@@ -107,8 +107,8 @@ two-counts : (a b : ℕ) (p : ℕ → Bool) → count p (a ∷ b ∷ []) ≡ con
 unfolding count
 two-counts a b p = refl
 
-pub keyword-from : (t : Tag) → keywordFrom (subtagOf t) ≡ isKeyword t
-unfolding keywordFrom subtagOf isKeyword firstByte count
+pub keyword-from : (t : Tag) → keywordFrom (subtagOf t) ≡ isKeywordKey t
+unfolding keywordFrom subtagOf isKeywordKey firstByte count
 keyword-from [] = refl
 keyword-from (a ∷ []) = refl
 keyword-from (a ∷ b ∷ []) = go (small a) (small b)
@@ -130,8 +130,8 @@ digit-not-small b e = classed b .digit ∙ go (classOf b) (sym (classed b .small
     go Separator f = refl
     go Other f = refl
 
-pub field-from : (t : Tag) → fieldFrom (subtagOf t) ≡ isField t
-unfolding fieldFrom subtagOf isField firstByte count
+pub field-from : (t : Tag) → fieldFrom (subtagOf t) ≡ isFieldKey t
+unfolding fieldFrom subtagOf isFieldKey firstByte count
 field-from [] = refl
 field-from (a ∷ []) = refl
 field-from (a ∷ b ∷ []) = go (small a) refl (digit b)

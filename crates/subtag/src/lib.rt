@@ -209,7 +209,7 @@ pub fn put_tidy(src: &[u8], out: &mut [u8], at: usize) -> usize
 }
 
 // The byte at the index i, of which the first count are to be capitals.
-fn raise(b: u8, i: usize, count: usize) -> u8
+pub fn raise(b: u8, i: usize, count: usize) -> u8
     ensures { λ r. ⌜ r ≡ raisedByte i count b ⌝ }
 {
     if i < count {

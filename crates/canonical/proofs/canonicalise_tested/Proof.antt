@@ -5,63 +5,53 @@ use Prim.Native.Nat.{_≤_}
 use lib.ListN.{length}
 use lib.Seq.{length-take-le}
 use Rattle.canonical.specs.declared.form.Form.{Form}
+use Rattle.canonical.proofs.Canonicalised.{fits-by}
 use Rattle.canonical.proofs.Delivers as delivers
 use borrow.Author.Needs.{needs}
 use Rattle.canonical.proofs.canonicalise_tested.Statement.{statement}
 use Rattle.canonical.proofs.canonicalise_tested.Tie as tie
 
--- src/lib.rt:30:20
 buffer-requires : tie.Need-buffer-requires
 buffer-requires c κs = search needs
 
--- src/lib.rt:31:41
 slice-aggregate-canonical-form : tie.Need-slice-aggregate-canonical-form
 slice-aggregate-canonical-form c = search needs
 
--- src/lib.rt:31:9
 canonical-form-requires : tie.Need-canonical-form-requires
 canonical-form-requires c κs = search needs
 
--- src/lib.rt:32:23
 enum-known-c : tie.Need-enum-known-c
 enum-known-c c = search needs
 
--- src/lib.rt:33:9
 refused-requires : tie.Need-refused-requires
 refused-requires c κs = search needs
 
--- src/lib.rt:33:9
 returns : tie.Need-returns
 returns c =
     let k = c .before .before .before in
     let b = k .before .before .before .before .before .before .before in
     delivers.refused-stands (b .args .aliases .now) (b .args .id .now) _ _ (k .canonical-form .result) (c .refused .result) (c .refused .ensures) (k .canonical-form .ensures .0) (c .before .match .keys2)
 
--- src/lib.rt:36:13
 abbrev form : tie.After-c → Form
 form c = c .c .given .0 .0
 
 fits : (c : tie.After-c) → form c .len ≤ length (c .before .before .before .canonical-form .last .1 .1 .1 .0)
 fits c =
     let k = c .before .before .before in
-    omega (arith, delivers.form-small (k .canonical-form .result) (form c) (c .c .given .1) (k .canonical-form .ensures .1), k .before .before .buffer .ensures)
+    omega (arith, fits-by (c .c .given .1) (k .canonical-form .ensures .1), k .before .before .buffer .ensures)
 
 array-share-prefix-form : tie.Need-array-share-prefix-form
 array-share-prefix-form c = fits (c .before)
 
--- src/lib.rt:36:13
 slice-aggregate-deliver : tie.Need-slice-aggregate-deliver
 slice-aggregate-deliver c = sym (length-take-le _ _ (fits (c .before .before)))
 
--- src/lib.rt:36:5
 deliver-requires : tie.Need-deliver-requires
 deliver-requires c κs = search needs
 
--- src/lib.rt:26:1
 same-length : tie.Need-same-length
 same-length c = search needs
 
--- src/lib.rt:26:1
 returns-2 : tie.Need-returns-2
 returns-2 c =
     let d = c .before .before in

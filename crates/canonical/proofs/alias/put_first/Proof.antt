@@ -5,27 +5,20 @@ use mathlib.Core.List.{map}
 use Prim.Native.Nat.{ℕ, _+_}
 use lib.ListN.{length, length-map}
 use lib.Seq.{sets}
-use Rattle.standard.specs.Tag.{Tag, pick}
+use Rattle.standard.specs.Tag.{Tag}
 use Rattle.subtag.specs.Bytes.{tidyByte, raised as raisedTag}
 use Rattle.subtag.proofs.Raised.{raised-length}
 use Rattle.canonical.proofs.Raised as raised
 use borrow.Author.Needs.{needs}
 use Rattle.canonical.proofs.alias.put_first.Statement.{statement}
 use Rattle.canonical.proofs.alias.put_first.Tie as tie
-use Rattle.canonical.proofs.alias.put_first.Reads as reads
-use Rattle.canonical.proofs.alias.put_first.Lts as lts
-use Rattle.canonical.proofs.alias.put.Reads as put-reads
-use Rattle.subtag.proofs.put_raised.Reads as put-raised-reads
 
--- src/alias.rt:54:9
 put-requires : tie.Need-put-requires
 put-requires c κs = search needs
 
--- src/alias.rt:54:9
 same-length : tie.Need-same-length
 same-length c = search needs
 
--- src/alias.rt:54:9
 returns : tie.Need-returns
 returns c =
     let p = c .before .before in
@@ -34,15 +27,12 @@ returns c =
     let e = raised.pick-none (a .count) (map tidyByte (a .given .now)) (a .brought .now) z in
     (p .put .ensures .0 ∙ ap (λ (t : Tag). a .at + length t) (sym e), p .put .ensures .1 ∙ ap (sets (a .out .now) (a .at)) (sym e))
 
--- src/alias.rt:56:5
 put-raised-requires : tie.Need-put-raised-requires
 put-raised-requires c κs = search needs
 
--- src/alias.rt:49:1
 same-length-2 : tie.Need-same-length-2
 same-length-2 c = search needs
 
--- src/alias.rt:49:1
 returns-2 : tie.Need-returns-2
 returns-2 c =
     let p = c .before .before in

@@ -13,38 +13,32 @@ use borrow.Author.Needs.{needs}
 use Rattle.canonical.proofs.alias.put_led.Statement.{statement}
 use Rattle.canonical.proofs.alias.put_led.Tie as tie
 
--- src/alias.rt:85:9
 returns : tie.Need-returns
 returns c =
     let a = c .before .before .before .args in
     let e = keys.led-none (a .src .now) (c .if1 .taken) in
     (omega (arith, ap length e), ap (sets (a .out .now) (a .at)) (sym e))
 
--- src/alias.rt:87:5
 some : (c : tie.Else1) → let s = c .before .before .before .args .src .now in led (optional s) ≡ 45 ∷ s
 some c = keys.led-some _ (c .if1 .left)
 
 slice-write-out : tie.Need-slice-write-out
 slice-write-out c = omega (arith, ap length (some c))
 
--- src/alias.rt:88:19
 add-put : tie.Need-add-put
 add-put c = search needs
 
--- src/alias.rt:88:5
 put-requires : tie.Need-put-requires
 put-requires c κs =
     let a = c .before .before .before .before .args in
     omega (arith, ap length (some (c .before)), length-set (a .out .now) (a .at) 45)
 
--- src/alias.rt:80:1
 same-length : tie.Need-same-length
 same-length c =
     let p = c .before .before in
     let a = p .before .before .before .before .before .args in
     keys.stored-size (a .out .now) _ (a .at) 45 (a .at + 1) (a .src .now) (p .put .ensures .1)
 
--- src/alias.rt:80:1
 returns-2 : tie.Need-returns-2
 returns-2 c =
     let p = c .before .before in

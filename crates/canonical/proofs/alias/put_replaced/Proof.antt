@@ -12,11 +12,9 @@ use borrow.Author.Needs.{needs}
 use Rattle.canonical.proofs.alias.put_replaced.Statement.{statement}
 use Rattle.canonical.proofs.alias.put_replaced.Tie as tie
 
--- src/alias.rt:70:9
 lookup-hinted-requires : tie.Need-lookup-hinted-requires
 lookup-hinted-requires c κs = search needs
 
--- src/alias.rt:72:9
 abbrev text : tie.After-lookup-hinted → List ℕ
 text c =
     let a = c .before .before .before .before .before .before .args in
@@ -39,11 +37,9 @@ put-requires c κs =
     let v = found (c .before) in
     omega (arith, ap length v)
 
--- src/alias.rt:72:9
 same-length : tie.Need-same-length
 same-length c = search needs
 
--- src/alias.rt:72:9
 returns : tie.Need-returns
 returns c =
     let p = c .before .before in
@@ -51,29 +47,23 @@ returns c =
     let v = found (p .before .before) in
     (p .put .ensures .0 ∙ ap (λ (x : List ℕ). a .at + length x) v, p .put .ensures .1 ∙ ap (sets (a .out .now) (a .at)) v)
 
--- src/alias.rt:74:9
 sub-put : tie.Need-sub-put
 sub-put c = search needs
 
--- src/alias.rt:74:9
 part-put-start : tie.Need-part-put-start
 part-put-start c = search needs
 
--- src/alias.rt:74:9
 part-put-end : tie.Need-part-put-end
 part-put-end c = search needs
 
--- src/alias.rt:74:5
 put-requires-2 : tie.Need-put-requires-2
 put-requires-2 c κs =
     let v = not-found (c .before .before) in
     omega (arith, ap length v)
 
--- src/alias.rt:65:1
 same-length-2 : tie.Need-same-length-2
 same-length-2 c = search needs
 
--- src/alias.rt:65:1
 returns-2 : tie.Need-returns-2
 returns-2 c =
     let p = c .before .before in

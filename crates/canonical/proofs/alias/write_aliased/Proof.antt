@@ -17,23 +17,18 @@ use borrow.Author.Needs.{needs}
 use Rattle.canonical.proofs.alias.write_aliased.Statement.{statement}
 use Rattle.canonical.proofs.alias.write_aliased.Tie as tie
 
--- src/alias.rt:119:23
 slice-aggregate-put : tie.Need-slice-aggregate-put
 slice-aggregate-put c = search needs
 
--- src/alias.rt:119:9
 put-requires : tie.Need-put-requires
 put-requires c κs = search needs
 
--- src/alias.rt:120:46
 slice-aggregate-put-first : tie.Need-slice-aggregate-put-first
 slice-aggregate-put-first c = search needs
 
--- src/alias.rt:120:9
 put-first-requires : tie.Need-put-first-requires
 put-first-requires c κs = search needs
 
--- src/alias.rt:122:9
 abbrev tag : tie.After-key4 → Tag
 tag c =
     let a = c .before .before .before .before .before .before .before .before .before .before .before .before .args in
@@ -67,26 +62,21 @@ returns c =
     let e = keys.aliased-none (a .aliases .now) (a .name .now) (tag k) z in
     (omega (arith, ap length e), ap (sets (a .out .now) (a .at)) (sym e))
 
--- src/alias.rt:124:20
 array-share-prefix-key : tie.Need-array-share-prefix-key
 array-share-prefix-key c = (key (c .before)) .fits
 
--- src/alias.rt:124:20
 slice-aggregate-write-replaced : tie.Need-slice-aggregate-write-replaced
 slice-aggregate-write-replaced c = (key (c .before .before)) .size
 
--- src/alias.rt:124:5
 write-replaced-requires : tie.Need-write-replaced-requires
 write-replaced-requires c κs =
     let e = c .before .before in
     let b = e .before .before .before .before .before .before .before .before .before .before .before .before .before in
     ((key (e .before)) .skips, b .pre .3, omega (arith, ap length (part e)))
 
--- src/alias.rt:106:1
 same-length : tie.Need-same-length
 same-length c = search needs
 
--- src/alias.rt:106:1
 returns-2 : tie.Need-returns-2
 returns-2 c =
     let p = c .before .before in

@@ -14,11 +14,9 @@ use borrow.Author.Needs.{needs}
 use Rattle.canonical.proofs.alias.write_replaced.Statement.{statement}
 use Rattle.canonical.proofs.alias.write_replaced.Tie as tie
 
--- src/alias.rt:97:9
 lookup-hinted-requires : tie.Need-lookup-hinted-requires
 lookup-hinted-requires c κs = search needs
 
--- src/alias.rt:99:9
 abbrev text : tie.After-lookup-hinted → List ℕ
 text c =
     let a = c .before .before .before .before .before .before .args in
@@ -43,11 +41,9 @@ not-found c =
 put-led-requires : tie.Need-put-led-requires
 put-led-requires c κs = omega (arith, ap length (found (c .before)))
 
--- src/alias.rt:99:9
 same-length : tie.Need-same-length
 same-length c = search needs
 
--- src/alias.rt:99:9
 returns : tie.Need-returns
 returns c =
     let p = c .before .before in
@@ -55,27 +51,21 @@ returns c =
     let v = found (p .before .before) in
     (p .put-led .ensures .0 ∙ ap (λ (x : List ℕ). a .at + length x) v, p .put-led .ensures .1 ∙ ap (sets (a .out .now) (a .at)) v)
 
--- src/alias.rt:101:13
 sub-put-led : tie.Need-sub-put-led
 sub-put-led c = search needs
 
--- src/alias.rt:101:13
 part-put-led-start : tie.Need-part-put-led-start
 part-put-led-start c = search needs
 
--- src/alias.rt:101:13
 part-put-led-end : tie.Need-part-put-led-end
 part-put-led-end c = search needs
 
--- src/alias.rt:101:5
 put-led-requires-2 : tie.Need-put-led-requires-2
 put-led-requires-2 c κs = omega (arith, ap length (not-found (c .before .before)))
 
--- src/alias.rt:92:1
 same-length-2 : tie.Need-same-length-2
 same-length-2 c = search needs
 
--- src/alias.rt:92:1
 returns-2 : tie.Need-returns-2
 returns-2 c =
     let p = c .before .before in

@@ -4,25 +4,20 @@ use borrow.Author.Needs.{needs}
 use Rattle.canonical.proofs.delivery.deliver.Statement.{statement}
 use Rattle.canonical.proofs.delivery.deliver.Tie as tie
 
--- src/delivery.rt:53:9
 refuse-requires : tie.Need-refuse-requires
 refuse-requires c κs = search needs
 
--- src/delivery.rt:53:9
 returns : tie.Need-returns
 returns c =
     let b = c .before .before .before .before in
     delivers.too-short (b .args .bytes .now) (b .args .out .now) (b .args .steps) (c .refuse .result) (c .refuse .ensures) (c .before .if1 .taken)
 
--- src/delivery.rt:55:9
 put-requires : tie.Need-put-requires
 put-requires c κs = search needs
 
--- src/delivery.rt:48:1
 same-length : tie.Need-same-length
 same-length c = search needs
 
--- src/delivery.rt:48:1
 returns-2 : tie.Need-returns-2
 returns-2 c =
     let p = c .before .before in

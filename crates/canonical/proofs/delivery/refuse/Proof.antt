@@ -4,7 +4,6 @@ use Rattle.canonical.specs.Answer.{refusedAnswer}
 use Rattle.canonical.proofs.delivery.refuse.Statement.{statement}
 use Rattle.canonical.proofs.delivery.refuse.Tie as tie
 
--- src/delivery.rt:18:1
 returns : tie.Need-returns
 unfolding refusedAnswer
 returns c = refl

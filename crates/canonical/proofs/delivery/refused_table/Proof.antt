@@ -5,28 +5,22 @@ use borrow.Author.Needs.{needs}
 use Rattle.canonical.proofs.delivery.refused_table.Statement.{statement}
 use Rattle.canonical.proofs.delivery.refused_table.Tie as tie
 
--- src/delivery.rt:53:26
 enum-told : tie.Need-enum-told
 enum-told c = search needs
 
--- src/delivery.rt:53:26
 refuse-requires : tie.Need-refuse-requires
 refuse-requires c κs = search needs
 
--- src/delivery.rt:54:22
 enum-known-v : tie.Need-enum-known-v
 enum-known-v c = search needs
 
--- src/delivery.rt:54:47
 refuse-requires-2 : tie.Need-refuse-requires-2
 refuse-requires-2 c κs = search needs
 
--- src/delivery.rt:49:1
 returns : tie.Need-returns
 unfolding refusedTable
 returns c = c .refuse .ensures ∙ sym (ap refusedTable (c .before .enum-told .given .1))
 
--- src/delivery.rt:49:1
 returns-2 : tie.Need-returns-2
 unfolding refusedTable
 returns-2 c = c .refuse2 .ensures ∙ sym (ap refusedTable (c .before .before .v .given .1))

@@ -6,26 +6,21 @@ use borrow.Author.Needs.{needs}
 use Rattle.canonical.proofs.form.canonical_form.Statement.{statement}
 use Rattle.canonical.proofs.form.canonical_form.Tie as tie
 
--- src/form.rt:117:9
 read-parts-requires : tie.Need-read-parts-requires
 read-parts-requires c κs = search needs
 
--- src/form.rt:118:23
 enum-known-reading : tie.Need-enum-known-reading
 enum-known-reading c = search needs
 
--- src/form.rt:119:9
 unread-requires : tie.Need-unread-requires
 unread-requires c κs = search needs
 
--- src/form.rt:119:9
 returns : tie.Need-returns
 returns c =
     let r = c .before .before in
     let b = r .before .before .before .before .before in
     outcomes.stands-as (b .args .aliases .now) (b .args .id .now) _ (r .read-parts .result) (c .unread .result) (c .unread .ensures) (r .read-parts .ensures) (c .before .match .keys2)
 
--- src/form.rt:121:9
 write-form-requires : tie.Need-write-form-requires
 write-form-requires c κs =
     let m = c .before .before .before in
@@ -34,11 +29,9 @@ write-form-requires c κs =
     let w = outcomes.was-read (b .args .aliases .now) (b .args .id .now) (b .args .out .now) (r .read-parts .result) _ (r .read-parts .ensures) (c .before .before .reading .given .1) in
     (w .0, w .1, delivers.tested-with (b .args .aliases .now) (b .args .hints .now) (b .pre .0) (b .pre .2), b .pre .1)
 
--- src/form.rt:123:9
 same-length : tie.Need-same-length
 same-length c = search needs
 
--- src/form.rt:123:9
 returns-2 : tie.Need-returns-2
 returns-2 c =
     let w = c .before .before .before .before in
@@ -48,11 +41,9 @@ returns-2 c =
     let g = outcomes.was-read (b .args .aliases .now) (b .args .id .now) (b .args .out .now) (r .read-parts .result) _ (r .read-parts .ensures) (w .before .before .before .reading .given .1) in
     outcomes.too-long (b .args .aliases .now) (b .args .id .now) (w .write-form .last .1 .1 .1 .1 .0) (g .0) (w .write-form .result) (w .write-form .ensures .0) (c .if1 .taken)
 
--- src/form.rt:113:1
 same-length-2 : tie.Need-same-length-2
 same-length-2 c = search needs
 
--- src/form.rt:113:1
 returns-3 : tie.Need-returns-3
 returns-3 c =
     let w = c .before .before .before .before in

@@ -15,38 +15,30 @@ Inv-loop s count₀ i₀ count i = (i ≤ length s) × (count ≤ i) × (count +
 abbrev μ-loop : tie.MeasureT-loop
 μ-loop s count₀ i₀ count i = length s - i
 
--- src/form.rt:60:5
 loop-holds : tie.Need-loop-holds Inv-loop μ-loop
 loop-holds c = omega arith
 
--- src/form.rt:61:25
 shared-slice-read-hyphen : tie.Need-shared-slice-read-hyphen Inv-loop μ-loop
 shared-slice-read-hyphen c = omega arith
 
--- src/form.rt:61:18
 hyphen-requires : tie.Need-hyphen-requires Inv-loop μ-loop
 hyphen-requires c κs = search needs
 
--- src/form.rt:61:9
 add-count : tie.Need-add-count Inv-loop μ-loop
 add-count c = omega (arith, c .hyphen .ensures .1)
 
--- src/form.rt:62:9
 add-i : tie.Need-add-i Inv-loop μ-loop
 add-i c = omega arith
 
--- src/form.rt:60:5
 loop-less : tie.Need-loop-less Inv-loop μ-loop
 loop-less c = omega arith
 
--- src/form.rt:60:5
 loop-again : tie.Need-loop-again Inv-loop μ-loop
 loop-again c =
     let l = c .before .before .before .loop in
     let s = c .before .before .before .before .before .args .s .now in
     (omega arith, omega (arith, c .hyphen .ensures .1), omega (arith, c .hyphen .ensures .0, counts.hyphens-more s (l .i) (omega arith)))
 
--- src/form.rt:55:1
 returns : tie.Need-returns Inv-loop μ-loop
 returns c =
     let l = c .before .loop in

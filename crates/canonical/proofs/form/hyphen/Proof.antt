@@ -4,11 +4,9 @@ use Rattle.canonical.proofs.Counts as counts
 use Rattle.canonical.proofs.form.hyphen.Statement.{statement}
 use Rattle.canonical.proofs.form.hyphen.Tie as tie
 
--- src/form.rt:49:9
 returns : tie.Need-returns
 returns c = (counts.hyphen-yes _ (c .if1 .taken), omega arith)
 
--- src/form.rt:45:1
 returns-2 : tie.Need-returns-2
 returns-2 c = (counts.hyphen-no _ (c .if1 .left), omega arith)
 

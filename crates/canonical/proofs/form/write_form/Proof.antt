@@ -1,7 +1,7 @@
 -- `canonical::form::write_form` meets its contract. Assumes nothing.
 use native.Mathlib.Omega.{arith}
 use mathlib.Core.Path.{_≡_}
-use Prim.Native.Nat.{_+_, _-_, _≤_}
+use Prim.Native.Nat.{_+_, _≤_}
 use lib.ListN.{length}
 use Rattle.standard.specs.Reading.{split, identifierOf}
 use Rattle.canonical.proofs.Formed as formed
@@ -9,11 +9,9 @@ use borrow.Author.Needs.{needs}
 use Rattle.canonical.proofs.form.write_form.Statement.{statement}
 use Rattle.canonical.proofs.form.write_form.Tie as tie
 
--- src/form.rt:72:9
 write-three-requires : tie.Need-write-three-requires
 write-three-requires c κs = search needs
 
--- src/form.rt:79:35
 -- the sections, from the start
 abbrev start : tie.After-write-three → tie.Start
 start c = c .before .before .before .before .before .before
@@ -24,15 +22,12 @@ sections b = formed.lent (b .args .id .now) (b .pre .0) (b .args .p) (b .pre .1)
 sub-write-variants : tie.Need-sub-write-variants
 sub-write-variants c = (sections (start (c .before .before))) .low
 
--- src/form.rt:79:35
 part-write-variants-start : tie.Need-part-write-variants-start
 part-write-variants-start c = let l = sections (start (c .before .before)) in omega arith
 
--- src/form.rt:79:35
 part-write-variants-end : tie.Need-part-write-variants-end
 part-write-variants-end c = let l = sections (start (c .before .before)) in omega arith
 
--- src/form.rt:79:9
 write-variants-requires : tie.Need-write-variants-requires
 write-variants-requires c κs =
     let w = c .before .before .before .before in
@@ -40,7 +35,6 @@ write-variants-requires c κs =
     let r = formed.variants-ready (b .args .aliases .now) (b .args .id .now) (b .pre .2 .passes) (b .pre .0) (b .args .p) (b .pre .1) (w .write-three .result) (w .write-three .ensures .0) in
     (r .0, r .1, r .2, b .pre .2, r .3, omega (arith, r .4))
 
--- src/form.rt:80:39
 abbrev three : tie.After-write-variants → tie.After-write-three
 three c = c .before .before .before .before .before
 
@@ -56,15 +50,12 @@ size c =
 sub-write-extensions : tie.Need-sub-write-extensions
 sub-write-extensions c = (sections (start (three (c .before .before)))) .middle
 
--- src/form.rt:80:39
 part-write-extensions-start : tie.Need-part-write-extensions-start
 part-write-extensions-start c = let l = sections (start (three (c .before .before))) in omega arith
 
--- src/form.rt:80:39
 part-write-extensions-end : tie.Need-part-write-extensions-end
 part-write-extensions-end c = let l = sections (start (three (c .before .before))) in omega arith
 
--- src/form.rt:80:9
 write-extensions-requires : tie.Need-write-extensions-requires
 write-extensions-requires c κs =
     let v = c .before .before .before .before in
@@ -73,7 +64,6 @@ write-extensions-requires c κs =
     let r = formed.extensions-ready (b .args .aliases .now) (b .args .id .now) (b .pre .2 .passes) (b .pre .0) (b .args .p) (b .pre .1) (w .write-three .result) (w .write-three .ensures .0) in
     (omega (arith, size v), omega (arith, size v), r .0, r .1, r .2)
 
--- src/form.rt:81:24
 abbrev variants : tie.After-write-extensions → tie.After-write-variants
 variants c = c .before .before .before .before .before
 
@@ -90,29 +80,23 @@ kept c = omega (arith, kept-variants (variants c))
 sub-put-tidy : tie.Need-sub-put-tidy
 sub-put-tidy c = (sections (start (three (variants (c .before .before))))) .high
 
--- src/form.rt:81:24
 part-put-tidy-start : tie.Need-part-put-tidy-start
 part-put-tidy-start c = let l = sections (start (three (variants (c .before .before)))) in omega arith
 
--- src/form.rt:81:24
 part-put-tidy-end : tie.Need-part-put-tidy-end
 part-put-tidy-end c = search needs
 
--- src/form.rt:81:9
 put-tidy-requires : tie.Need-put-tidy-requires
 put-tidy-requires c κs =
     let e = c .before .before .before .before in
     omega (arith, size (variants e), e .write-extensions .ensures .2, kept e)
 
--- src/form.rt:82:31
 sub-count-subtags : tie.Need-sub-count-subtags
 sub-count-subtags c = search needs
 
--- src/form.rt:82:31
 part-count-subtags-start : tie.Need-part-count-subtags-start
 part-count-subtags-start c = search needs
 
--- src/form.rt:82:31
 abbrev extensions : tie.After-put-tidy → tie.After-write-extensions
 extensions c = c .before .before .before .before .before
 
@@ -121,15 +105,12 @@ part-count-subtags-end c =
     let t = c .before .before .before in
     omega (arith, size (variants (extensions t)), kept (extensions t))
 
--- src/form.rt:82:9
 count-subtags-requires : tie.Need-count-subtags-requires
 count-subtags-requires c κs = search needs
 
--- src/form.rt:68:1
 same-length : tie.Need-same-length
 same-length c = search needs
 
--- src/form.rt:68:1
 returns : tie.Need-returns
 returns c =
     let t = c .before .before .before .before .before in

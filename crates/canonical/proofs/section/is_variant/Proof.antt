@@ -9,27 +9,21 @@ use borrow.Author.Needs.{needs}
 use Rattle.canonical.proofs.section.is_variant.Statement.{statement}
 use Rattle.canonical.proofs.section.is_variant.Tie as tie
 
--- src/section.rt:39:9
 kind-of-requires : tie.Need-kind-of-requires
 kind-of-requires c κs = search needs
 
--- src/section.rt:41:25
 enum-told : tie.Need-enum-told
 enum-told c = search needs
 
--- src/section.rt:42:25
 enum-told-2 : tie.Need-enum-told-2
 enum-told-2 c = search needs
 
--- src/section.rt:43:26
 enum-told-3 : tie.Need-enum-told-3
 enum-told-3 c = search needs
 
--- src/section.rt:44:26
 enum-told-4 : tie.Need-enum-told-4
 enum-told-4 c = search needs
 
--- src/section.rt:36:1
 -- the answer for a kind is the answer for the subtag
 abbrev answer : Kind → Bool
 answer k = variantKind (kindIs k)
@@ -41,17 +35,14 @@ returns : tie.Need-returns
 unfolding variantKind
 returns c = told _ (c .before .before .kind-of .ensures) (c .enum-told .given .1)
 
--- src/section.rt:36:1
 returns-2 : tie.Need-returns-2
 unfolding variantKind
 returns-2 c = told _ (c .before .before .kind-of .ensures) (c .enum-told2 .given .1)
 
--- src/section.rt:36:1
 returns-3 : tie.Need-returns-3
 unfolding variantKind
 returns-3 c = told _ (c .before .before .kind-of .ensures) (c .enum-told3 .given .1)
 
--- src/section.rt:36:1
 returns-4 : tie.Need-returns-4
 unfolding variantKind
 returns-4 c = told _ (c .before .before .kind-of .ensures) (c .enum-told4 .given .1)

@@ -6,28 +6,22 @@ use borrow.Author.Needs.{needs}
 use Rattle.canonical.proofs.section.is_what.Statement.{statement}
 use Rattle.canonical.proofs.section.is_what.Tie as tie
 
--- src/section.rt:52:24
 enum-told : tie.Need-enum-told
 enum-told c = search needs
 
--- src/section.rt:52:24
 is-field-requires : tie.Need-is-field-requires
 is-field-requires c κs = search needs
 
--- src/section.rt:53:26
 enum-told-2 : tie.Need-enum-told-2
 enum-told-2 c = search needs
 
--- src/section.rt:53:26
 is-variant-requires : tie.Need-is-variant-requires
 is-variant-requires c κs = search needs
 
--- src/section.rt:48:1
 returns : tie.Need-returns
 unfolding testOf
 returns c = c .is-field .ensures ∙ ap (λ (w : What). testOf w (c .before .before .before .args .t)) (sym (c .before .enum-told .given .1))
 
--- src/section.rt:48:1
 returns-2 : tie.Need-returns-2
 unfolding testOf
 returns-2 c = c .is-variant .ensures ∙ ap (λ (w : What). testOf w (c .before .before .before .args .t)) (sym (c .before .enum-told2 .given .1))

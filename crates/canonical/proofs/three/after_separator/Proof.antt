@@ -6,15 +6,12 @@ use borrow.Author.Needs.{needs}
 use Rattle.canonical.proofs.three.after_separator.Statement.{statement}
 use Rattle.canonical.proofs.three.after_separator.Tie as tie
 
--- src/three.rt:33:16
 add-result : tie.Need-add-result
 add-result c = search needs
 
--- src/three.rt:33:9
 returns : tie.Need-returns
 returns c = (sym (places.behind _ _ (c .if1 .taken)), omega arith)
 
--- src/three.rt:29:1
 returns-2 : tie.Need-returns-2
 returns-2 c = (sym (places.at-once _ _ (c .if1 .left)), omega arith)
 

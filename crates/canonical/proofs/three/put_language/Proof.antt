@@ -10,19 +10,15 @@ use borrow.Author.Needs.{needs}
 use Rattle.canonical.proofs.three.put_language.Statement.{statement}
 use Rattle.canonical.proofs.three.put_language.Tie as tie
 
--- src/three.rt:84:17
 slice-aggregate-put : tie.Need-slice-aggregate-put
 slice-aggregate-put c = search needs
 
--- src/three.rt:84:9
 put-requires : tie.Need-put-requires
 put-requires c κs = search needs
 
--- src/three.rt:88:37
 enum-told : tie.Need-enum-told
 enum-told c = search needs
 
--- src/three.rt:88:37
 slice-aggregate-put-tidy : tie.Need-slice-aggregate-put-tidy
 slice-aggregate-put-tidy c =
     let t = c .before in
@@ -30,7 +26,6 @@ slice-aggregate-put-tidy c =
     let l = front.as-language (b .args .id .now) (b .pre .0) (b .args .p) (b .pre .1) (t .enum-told .given .1) in
     sym (length-take-le _ (b .args .id .now) (l .1))
 
--- src/three.rt:88:28
 put-tidy-requires : tie.Need-put-tidy-requires
 put-tidy-requires c κs =
     let t = c .before .before in
@@ -38,35 +33,27 @@ put-tidy-requires c κs =
     let l = front.as-language (b .args .id .now) (b .pre .0) (b .args .p) (b .pre .1) (t .enum-told .given .1) in
     omega (arith, length-take-le (b .args .p .language) (b .args .id .now) (l .1), t .before .before .before .before .put .ensures .0)
 
--- src/three.rt:89:30
 enum-told-2 : tie.Need-enum-told-2
 enum-told-2 c = search needs
 
--- src/three.rt:89:30
 slice-aggregate-put-2 : tie.Need-slice-aggregate-put-2
 slice-aggregate-put-2 c = search needs
 
--- src/three.rt:89:26
 put-requires-2 : tie.Need-put-requires-2
 put-requires-2 c κs = search needs
 
--- src/three.rt:90:28
 enum-told-3 : tie.Need-enum-told-3
 enum-told-3 c = search needs
 
--- src/three.rt:90:28
 slice-aggregate-put-3 : tie.Need-slice-aggregate-put-3
 slice-aggregate-put-3 c = search needs
 
--- src/three.rt:90:24
 put-requires-3 : tie.Need-put-requires-3
 put-requires-3 c κs = search needs
 
--- src/three.rt:80:1
 same-length : tie.Need-same-length
 same-length c = search needs
 
--- src/three.rt:80:1
 returns : tie.Need-returns
 returns c =
     let p = c .before .before in
@@ -76,11 +63,9 @@ returns c =
     let l = front.as-language (b .args .id .now) (b .pre .0) (b .args .p) (b .pre .1) (t .enum-told .given .1) in
     front.wrote-key (b .args .id .now) (b .args .out .now) _ _ _ _ _ (w .put .ensures .0) (w .put .ensures .1) (p .put-tidy .ensures .0 ∙ ap (λ (n : ℕ). w .put .result + n) (sym (length-map (take (b .args .p .language) (b .args .id .now)) tidyByte))) (p .put-tidy .ensures .1) (l .0) (l .2)
 
--- src/three.rt:80:1
 same-length-2 : tie.Need-same-length-2
 same-length-2 c = search needs
 
--- src/three.rt:80:1
 returns-2 : tie.Need-returns-2
 returns-2 c =
     let p = c .before .before in
@@ -89,11 +74,9 @@ returns-2 c =
     let b = w .before .before .before .before .before in
     front.wrote-key (b .args .id .now) (b .args .out .now) _ _ _ _ _ (w .put .ensures .0) (w .put .ensures .1) (p .put2 .ensures .0) (p .put2 .ensures .1) (front.as-script (b .args .id .now) (b .pre .0) (b .args .p) (b .pre .1) (t .enum-told2 .given .1)) (omega arith)
 
--- src/three.rt:80:1
 same-length-3 : tie.Need-same-length-3
 same-length-3 c = search needs
 
--- src/three.rt:80:1
 returns-3 : tie.Need-returns-3
 returns-3 c =
     let p = c .before .before in

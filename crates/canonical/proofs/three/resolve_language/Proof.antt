@@ -8,26 +8,21 @@ use borrow.Author.Needs.{needs}
 use Rattle.canonical.proofs.three.resolve_language.Statement.{statement}
 use Rattle.canonical.proofs.three.resolve_language.Tie as tie
 
--- src/three.rt:98:33
 slice-aggregate-put-language : tie.Need-slice-aggregate-put-language
 slice-aggregate-put-language c = search needs
 
--- src/three.rt:98:9
 put-language-requires : tie.Need-put-language-requires
 put-language-requires c κs = search needs
 
--- src/three.rt:99:18
 array-share-prefix-key : tie.Need-array-share-prefix-key
 array-share-prefix-key c = search needs
 
--- src/three.rt:99:18
 slice-aggregate-put-replaced : tie.Need-slice-aggregate-put-replaced
 slice-aggregate-put-replaced c =
     let p = c .before .before in
     let b = p .before .before .before .before .before .before in
     cores.key-size (b .args .aliases .now) (b .args .id .now) (b .pre .2 .passes) (b .pre .0) _ (p .put-language .last .1 .1 .0) (p .put-language .result) (p .put-language .ensures .0) (p .put-language .ensures .2) (omega (arith, p .put-language .ensures .1))
 
--- src/three.rt:99:5
 put-replaced-requires : tie.Need-put-replaced-requires
 put-replaced-requires c κs =
     let p = c .before .before .before in
@@ -40,11 +35,9 @@ put-replaced-requires c κs =
       omega (arith, ap length w, cores.word-small A x (b .pre .2 .passes) (b .pre .0)),
     )
 
--- src/three.rt:93:1
 same-length : tie.Need-same-length
 same-length c = search needs
 
--- src/three.rt:93:1
 returns : tie.Need-returns
 returns c =
     let r = c .before .before in

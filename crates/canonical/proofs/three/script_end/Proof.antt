@@ -5,19 +5,15 @@ use borrow.Author.Needs.{needs}
 use Rattle.canonical.proofs.three.script_end.Statement.{statement}
 use Rattle.canonical.proofs.three.script_end.Tie as tie
 
--- src/three.rt:53:8
 add-if1 : tie.Need-add-if1
 add-if1 c = search needs
 
--- src/three.rt:54:16
 add-result : tie.Need-add-result
 add-result c = search needs
 
--- src/three.rt:54:9
 returns : tie.Need-returns
 returns c = sym (places.end-script _ _ (c .if1 .taken))
 
--- src/three.rt:49:1
 returns-2 : tie.Need-returns-2
 returns-2 c = sym (places.end-none _ _ (c .if1 .left))
 

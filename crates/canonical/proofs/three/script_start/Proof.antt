@@ -6,15 +6,12 @@ use borrow.Author.Needs.{needs}
 use Rattle.canonical.proofs.three.script_start.Statement.{statement}
 use Rattle.canonical.proofs.three.script_start.Tie as tie
 
--- src/three.rt:43:9
 returns : tie.Need-returns
 returns c = (sym (places.start-first _ _ (c .if1 .taken)), omega arith)
 
--- src/three.rt:45:5
 after-separator-requires : tie.Need-after-separator-requires
 after-separator-requires c κs = search needs
 
--- src/three.rt:39:1
 returns-2 : tie.Need-returns-2
 returns-2 c = (c .after-separator .ensures .0 ∙ sym (places.start-later _ _ (c .before .if1 .left)), c .after-separator .ensures .1)
 

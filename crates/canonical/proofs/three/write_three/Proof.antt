@@ -9,25 +9,20 @@ use borrow.Author.Needs.{needs}
 use Rattle.canonical.proofs.three.write_three.Statement.{statement}
 use Rattle.canonical.proofs.three.write_three.Tie as tie
 
--- src/three.rt:129:46
 slice-aggregate-resolve-language : tie.Need-slice-aggregate-resolve-language
 slice-aggregate-resolve-language c = search needs
 
--- src/three.rt:129:9
 resolve-language-requires : tie.Need-resolve-language-requires
 resolve-language-requires c κs = search needs
 
--- src/three.rt:130:23
 array-share-prefix-word : tie.Need-array-share-prefix-word
 array-share-prefix-word c = search needs
 
--- src/three.rt:130:23
 slice-aggregate-write-from : tie.Need-slice-aggregate-write-from
 slice-aggregate-write-from c =
     let r = c .before .before in
     sym (length-take-le (r .resolve-language .result) (r .resolve-language .last .1 .1 .1 .1 .0) (omega (arith, r .resolve-language .ensures .1)))
 
--- src/three.rt:130:5
 write-from-requires : tie.Need-write-from-requires
 write-from-requires c κs =
     let r = c .before .before .before in
@@ -35,11 +30,9 @@ write-from-requires c κs =
     let h : r .resolve-language .result ≤ length (r .resolve-language .last .1 .1 .1 .1 .0) = omega (arith, r .resolve-language .ensures .1) in
     (b .pre .0, b .pre .1, b .pre .2, keys.front-in _ _ _ _ (r .resolve-language .ensures .0) (r .resolve-language .ensures .2) h, omega arith)
 
--- src/three.rt:124:1
 same-length : tie.Need-same-length
 same-length c = search needs
 
--- src/three.rt:124:1
 returns : tie.Need-returns
 returns c = search needs
 

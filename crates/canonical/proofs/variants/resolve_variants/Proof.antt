@@ -16,33 +16,26 @@ Inv-loop s aliases hints out₀ n at₀ end₀ t10 out at end = (n ≡ length s)
 abbrev μ-loop : tie.MeasureT-loop
 μ-loop s aliases hints out₀ n at₀ end₀ t10 out at end = length s - at
 
--- src/variants.rt:20:5
 loop-holds : tie.Need-loop-holds Inv-loop μ-loop
 loop-holds c =
     let b = c .before .before .before .before in
     (refl, resolves.resolving-start (b .args .aliases .now) (b .args .s .now) (b .args .out .now) (b .pre .0) (b .pre .1))
 
--- src/variants.rt:21:21
 add-start : tie.Need-add-start Inv-loop μ-loop
 add-start c = omega (arith, c .before .loop .inv .0)
 
--- src/variants.rt:22:23
 sub-judge : tie.Need-sub-judge Inv-loop μ-loop
 sub-judge c = omega (arith, c .before .loop .inv .0)
 
--- src/variants.rt:22:23
 part-judge-start : tie.Need-part-judge-start Inv-loop μ-loop
 part-judge-start c = omega (arith, c .before .loop .inv .0)
 
--- src/variants.rt:22:23
 part-judge-end : tie.Need-part-judge-end Inv-loop μ-loop
 part-judge-end c = omega (arith, c .before .loop .inv .0)
 
--- src/variants.rt:22:13
 judge-requires : tie.Need-judge-requires Inv-loop μ-loop
 judge-requires c κs = search needs
 
--- src/variants.rt:23:20
 -- the variant at hand
 fits : (c : tie.After-judge Inv-loop μ-loop) → let l = c .before .before .before .loop in
     (l .at + 1 + c .judge .result .len ≤ length (c .before .before .before .before .before .before .before .before .args .s .now)) × (c .judge .result .len ≤ 8)
@@ -57,27 +50,21 @@ fits c =
 add-stop : tie.Need-add-stop Inv-loop μ-loop
 add-stop c = omega (arith, (fits (c .before)) .0)
 
--- src/variants.rt:24:29
 sub-write-aliased : tie.Need-sub-write-aliased Inv-loop μ-loop
 sub-write-aliased c = omega arith
 
--- src/variants.rt:24:29
 part-write-aliased-start : tie.Need-part-write-aliased-start Inv-loop μ-loop
 part-write-aliased-start c = omega arith
 
--- src/variants.rt:24:29
 part-write-aliased-end : tie.Need-part-write-aliased-end Inv-loop μ-loop
 part-write-aliased-end c = omega (arith, (fits (c .before)) .0)
 
--- src/variants.rt:24:49
 slice-aggregate-write-aliased : tie.Need-slice-aggregate-write-aliased Inv-loop μ-loop
 slice-aggregate-write-aliased c = refl
 
--- src/variants.rt:24:58
 slice-aggregate-write-aliased-2 : tie.Need-slice-aggregate-write-aliased-2 Inv-loop μ-loop
 slice-aggregate-write-aliased-2 c = refl
 
--- src/variants.rt:24:9
 write-aliased-requires : tie.Need-write-aliased-requires Inv-loop μ-loop
 write-aliased-requires c κs =
     let j = c .before .before .before .before .before in
@@ -92,13 +79,11 @@ write-aliased-requires c κs =
       resolves.part-room (b .args .aliases .now) (b .args .s .now) (b .args .out .now) (l .at) (l .out) (l .end) (l .inv .1) (omega arith) (j .judge .result) (j .judge .ensures) stop refl (b .pre .3),
     )
 
--- src/variants.rt:20:5
 loop-less : tie.Need-loop-less Inv-loop μ-loop
 loop-less c =
     let p = c .before .before in
     omega (arith, (fits (p .before .before .before .before .before .before)) .0)
 
--- src/variants.rt:20:5
 loop-again : tie.Need-loop-again Inv-loop μ-loop
 loop-again c =
     let p = c .before .before in
@@ -111,11 +96,9 @@ loop-again c =
       resolves.resolving-next (b .args .aliases .now) (b .args .s .now) (b .args .out .now) (l .at) (l .out) (l .end) (l .inv .1) (omega arith) (j .judge .result) (j .judge .ensures) stop refl _ _ (p .write-aliased .ensures .0) (p .write-aliased .ensures .1),
     )
 
--- src/variants.rt:13:1
 same-length : tie.Need-same-length Inv-loop μ-loop
 same-length c = c .before .loop .inv .1 .same-size
 
--- src/variants.rt:13:1
 returns : tie.Need-returns Inv-loop μ-loop
 returns c =
     let b = c .before .before .before .before .before .before in

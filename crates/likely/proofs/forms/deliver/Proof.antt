@@ -2,10 +2,6 @@ use Rattle.likely.proofs.Delivered.{given-long, given-short, given-done
 use borrow.Author.Needs.{needs}
 use Rattle.likely.proofs.forms.deliver.Statement.{statement}
 use Rattle.likely.proofs.forms.deliver.Tie as tie
-use Rattle.likely.proofs.forms.deliver.Reads as reads
-use Rattle.likely.proofs.forms.deliver.Lts as lts
-use Rattle.likely.proofs.forms.length_of.Reads as length-of-reads
-use Rattle.likely.proofs.forms.put_form.Reads as put-form-reads
 
 length-of-requires : tie.Need-length-of-requires
 length-of-requires c κs = search needs

@@ -5,11 +5,6 @@ use Rattle.likely.proofs.Delivered.{made-whole, made-long, made-kept, k
 use borrow.Author.Needs.{needs}
 use Rattle.likely.proofs.forms.finish.Statement.{statement}
 use Rattle.likely.proofs.forms.finish.Tie as tie
-use Rattle.likely.proofs.forms.finish.Reads as reads
-use Rattle.likely.proofs.forms.finish.Lts as lts
-use Rattle.likely.proofs.forms.deliver.Reads as deliver-reads
-use Rattle.likely.proofs.forms.length_of.Reads as length-of-reads
-use Rattle.likely.proofs.three.minimal.Reads as minimal-reads
 
 deliver-requires : tie.Need-deliver-requires
 deliver-requires c κs = search needs

@@ -9,14 +9,6 @@ use Rattle.likely.proofs.Delivered.{known-are, ready-is, made-none, ove
 use borrow.Author.Needs.{needs}
 use Rattle.likely.proofs.forms.form_by_parts.Statement.{statement}
 use Rattle.likely.proofs.forms.form_by_parts.Tie as tie
-use Rattle.likely.proofs.forms.form_by_parts.Reads as reads
-use Rattle.likely.proofs.forms.form_by_parts.Lts as lts
-use Rattle.likely.proofs.forms.finish.Reads as finish-reads
-use Rattle.likely.proofs.parts.first_of.Reads as first-of-reads
-use Rattle.likely.proofs.parts.known.Reads as known-reads
-use Rattle.likely.proofs.parts.language_of.Reads as language-of-reads
-use Rattle.likely.proofs.three.cuts_of.Reads as cuts-of-reads
-use Rattle.likely.proofs.three.row_for.Reads as row-for-reads
 
 slice-aggregate-known : tie.Need-slice-aggregate-known
 slice-aggregate-known c = search needs

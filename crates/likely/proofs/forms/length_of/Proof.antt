@@ -2,8 +2,6 @@ use Rattle.likely.proofs.Delivered.{long-1, long-2, long-3, long-4, lon
 use borrow.Author.Needs.{needs}
 use Rattle.likely.proofs.forms.length_of.Statement.{statement}
 use Rattle.likely.proofs.forms.length_of.Tie as tie
-use Rattle.likely.proofs.forms.length_of.Reads as reads
-use Rattle.likely.proofs.forms.length_of.Lts as lts
 
 returns : tie.Need-returns
 returns c = long-form _ _ _ _ (long-1 (c .before .args .language .now) (c .before .args .script .now) (c .before .args .region .now) (c .before .args .rest .now) (c .if1 .taken))

@@ -2,9 +2,6 @@ use Rattle.likely.proofs.Delivered.{put-four}
 use borrow.Author.Needs.{needs}
 use Rattle.likely.proofs.forms.put_form.Statement.{statement}
 use Rattle.likely.proofs.forms.put_form.Tie as tie
-use Rattle.likely.proofs.forms.put_form.Reads as reads
-use Rattle.likely.proofs.forms.put_form.Lts as lts
-use Rattle.canonical.proofs.alias.put.Reads as put-reads
 
 put-requires : tie.Need-put-requires
 put-requires c κs = search needs

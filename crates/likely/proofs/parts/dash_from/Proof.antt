@@ -6,8 +6,6 @@ use lib.ListN.{length}
 use Rattle.likely.specs.Parts.{dash}
 use Rattle.likely.proofs.parts.dash_from.Statement.{statement}
 use Rattle.likely.proofs.parts.dash_from.Tie as tie
-use Rattle.likely.proofs.parts.dash_from.Reads as reads
-use Rattle.likely.proofs.parts.dash_from.Lts as lts
 
 abbrev Inv-loop : tie.InvT-loop
 Inv-loop v at i₀ i = dash v at ≡ dash v i

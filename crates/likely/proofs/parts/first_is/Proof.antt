@@ -2,9 +2,6 @@ use Rattle.likely.proofs.Lookups.{other-is, first-is-same}
 use borrow.Author.Needs.{needs}
 use Rattle.likely.proofs.parts.first_is.Statement.{statement}
 use Rattle.likely.proofs.parts.first_is.Tie as tie
-use Rattle.likely.proofs.parts.first_is.Reads as reads
-use Rattle.likely.proofs.parts.first_is.Lts as lts
-use Rattle.subtag.proofs.same.Reads as same-reads
 
 same-requires : tie.Need-same-requires
 same-requires c κs = search needs

@@ -2,8 +2,6 @@ use native.Mathlib.Omega.{arith}
 use Rattle.likely.proofs.Lookups.{pick-none, pick-some}
 use Rattle.likely.proofs.parts.first_of.Statement.{statement}
 use Rattle.likely.proofs.parts.first_of.Tie as tie
-use Rattle.likely.proofs.parts.first_of.Reads as reads
-use Rattle.likely.proofs.parts.first_of.Lts as lts
 
 returns : tie.Need-returns
 returns c = pick-none _ _ (omega arith)

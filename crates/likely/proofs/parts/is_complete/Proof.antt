@@ -3,9 +3,6 @@ use Rattle.likely.proofs.Lookups.{no-language, no-script, by-region}
 use borrow.Author.Needs.{needs}
 use Rattle.likely.proofs.parts.is_complete.Statement.{statement}
 use Rattle.likely.proofs.parts.is_complete.Tie as tie
-use Rattle.likely.proofs.parts.is_complete.Reads as reads
-use Rattle.likely.proofs.parts.is_complete.Lts as lts
-use Rattle.subtag.proofs.same.Reads as same-reads
 
 slice-aggregate-same : tie.Need-slice-aggregate-same
 slice-aggregate-same c = search needs

@@ -2,9 +2,6 @@ use Rattle.likely.proofs.Lookups.{known-gone, known-kept}
 use borrow.Author.Needs.{needs}
 use Rattle.likely.proofs.parts.known.Statement.{statement}
 use Rattle.likely.proofs.parts.known.Tie as tie
-use Rattle.likely.proofs.parts.known.Reads as reads
-use Rattle.likely.proofs.parts.known.Lts as lts
-use Rattle.subtag.proofs.same.Reads as same-reads
 
 same-requires : tie.Need-same-requires
 same-requires c κs = search needs

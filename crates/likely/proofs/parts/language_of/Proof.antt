@@ -2,9 +2,6 @@ use Rattle.likely.proofs.Lookups.{language-other, language-kept}
 use borrow.Author.Needs.{needs}
 use Rattle.likely.proofs.parts.language_of.Statement.{statement}
 use Rattle.likely.proofs.parts.language_of.Tie as tie
-use Rattle.likely.proofs.parts.language_of.Reads as reads
-use Rattle.likely.proofs.parts.language_of.Lts as lts
-use Rattle.subtag.proofs.same.Reads as same-reads
 
 slice-aggregate-same : tie.Need-slice-aggregate-same
 slice-aggregate-same c = search needs

@@ -3,10 +3,6 @@ use Rattle.likely.proofs.Lookups.{no-room, leb-le}
 use borrow.Author.Needs.{needs}
 use Rattle.likely.proofs.rows.find.Statement.{statement}
 use Rattle.likely.proofs.rows.find.Tie as tie
-use Rattle.likely.proofs.rows.find.Reads as reads
-use Rattle.likely.proofs.rows.find.Lts as lts
-use Rattle.likely.proofs.rows.find_key.Reads as find-key-reads
-use Rattle.likely.proofs.rows.has_room.Reads as has-room-reads
 
 has-room-requires : tie.Need-has-room-requires
 has-room-requires c κs = search needs

@@ -1,4 +1,4 @@
-use mathlib.Core.Path.{_≡_, refl, sym}
+use mathlib.Core.Path.{refl, sym}
 use Prim.Native.Nat.{_+_, _≤_}
 use lib.ListN.{length}
 use native.Mathlib.Omega.{arith}
@@ -7,10 +7,6 @@ use Rattle.likely.proofs.Lookups.{blank, put-three, value-by, found-by}
 use borrow.Author.Needs.{needs}
 use Rattle.likely.proofs.rows.find_key.Statement.{statement}
 use Rattle.likely.proofs.rows.find_key.Tie as tie
-use Rattle.likely.proofs.rows.find_key.Reads as reads
-use Rattle.likely.proofs.rows.find_key.Lts as lts
-use Rattle.canonical.proofs.alias.put.Reads as put-reads
-use Rattle.table.proofs.hints.lookup_hinted.Reads as lookup-hinted-reads
 
 slice-aggregate-put : tie.Need-slice-aggregate-put
 slice-aggregate-put c = search needs

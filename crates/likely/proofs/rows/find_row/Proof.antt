@@ -2,10 +2,6 @@ use Rattle.likely.proofs.Lookups.{ready-language, says, row-first, row-
 use borrow.Author.Needs.{needs}
 use Rattle.likely.proofs.rows.find_row.Statement.{statement}
 use Rattle.likely.proofs.rows.find_row.Tie as tie
-use Rattle.likely.proofs.rows.find_row.Reads as reads
-use Rattle.likely.proofs.rows.find_row.Lts as lts
-use Rattle.likely.proofs.rows.find.Reads as find-reads
-use Rattle.likely.proofs.rows.find_shorter.Reads as find-shorter-reads
 
 find-requires : tie.Need-find-requires
 find-requires c κs = search needs

@@ -5,9 +5,6 @@ use Rattle.likely.proofs.Lookups.{ready-script, ready-region, ready-lan
 use borrow.Author.Needs.{needs}
 use Rattle.likely.proofs.rows.find_shorter.Statement.{statement}
 use Rattle.likely.proofs.rows.find_shorter.Tie as tie
-use Rattle.likely.proofs.rows.find_shorter.Reads as reads
-use Rattle.likely.proofs.rows.find_shorter.Lts as lts
-use Rattle.likely.proofs.rows.find.Reads as find-reads
 
 slice-aggregate-none : tie.Need-slice-aggregate-none
 slice-aggregate-none c = search needs

@@ -2,8 +2,6 @@ use Rattle.likely.proofs.Lookups.{long-language, long-script, long-regi
 use borrow.Author.Needs.{needs}
 use Rattle.likely.proofs.rows.has_room.Statement.{statement}
 use Rattle.likely.proofs.rows.has_room.Tie as tie
-use Rattle.likely.proofs.rows.has_room.Reads as reads
-use Rattle.likely.proofs.rows.has_room.Lts as lts
 
 returns : tie.Need-returns
 returns c = long-language _ _ _ (c .if1 .taken)

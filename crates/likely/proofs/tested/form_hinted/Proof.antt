@@ -1,16 +1,12 @@
 use native.Mathlib.Omega.{arith}
-use Rattle.likely.proofs.Formed.{refusal-stands, canonicalised, formed-by, fits-by, in-order, made-answer}
+use Rattle.canonical.proofs.Canonicalised.{canonicalised, formed-by, fits-by, in-order}
+use Rattle.likely.proofs.Formed.{refusal-stands, made-answer}
 use borrow.Author.Needs.{needs}
 use Rattle.likely.proofs.tested.form_hinted.Statement.{statement}
 use Rattle.likely.proofs.tested.form_hinted.Tie as tie
-use Rattle.likely.proofs.tested.form_hinted.Reads as reads
-use Rattle.likely.proofs.tested.form_hinted.Lts as lts
-use Rattle.canonical.proofs.form.canonical_form.Reads as canonical-form-reads
-use Rattle.likely.proofs.tested.blank.Reads as blank-reads
-use Rattle.likely.proofs.tested.from_form.Reads as from-form-reads
 
-blank-requires : tie.Need-blank-requires
-blank-requires c κs = search needs
+buffer-requires : tie.Need-buffer-requires
+buffer-requires c κs = search needs
 
 slice-aggregate-canonical-form : tie.Need-slice-aggregate-canonical-form
 slice-aggregate-canonical-form c = search needs
@@ -55,7 +51,7 @@ pub form-hinted-spec : {M : Type 1} → statement M
 form-hinted-spec =
     tie.close
     (tie.spec
-    blank-requires
+    buffer-requires
     slice-aggregate-canonical-form
     canonical-form-requires
     enum-known-c

@@ -5,9 +5,6 @@ use Rattle.likely.proofs.Formed.{by-slices}
 use borrow.Author.Needs.{needs}
 use Rattle.likely.proofs.tested.from_form.Statement.{statement}
 use Rattle.likely.proofs.tested.from_form.Tie as tie
-use Rattle.likely.proofs.tested.from_form.Reads as reads
-use Rattle.likely.proofs.tested.from_form.Lts as lts
-use Rattle.likely.proofs.forms.form_by_parts.Reads as form-by-parts-reads
 
 slice-aggregate-form-by-parts : tie.Need-slice-aggregate-form-by-parts
 slice-aggregate-form-by-parts c = sym (length-take-le _ _ (omega arith))

@@ -2,9 +2,6 @@ use Rattle.likely.proofs.Lookups.{cut-short, cut-long}
 use borrow.Author.Needs.{needs}
 use Rattle.likely.proofs.three.cuts_of.Statement.{statement}
 use Rattle.likely.proofs.three.cuts_of.Tie as tie
-use Rattle.likely.proofs.three.cuts_of.Reads as reads
-use Rattle.likely.proofs.three.cuts_of.Lts as lts
-use Rattle.likely.proofs.parts.dash_from.Reads as dash-from-reads
 
 dash-from-requires : tie.Need-dash-from-requires
 dash-from-requires c κs = search needs

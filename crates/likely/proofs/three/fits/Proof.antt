@@ -2,11 +2,6 @@ use Rattle.likely.proofs.Lookups.{flip-true, flip-false, misfit-row, mi
 use borrow.Author.Needs.{needs}
 use Rattle.likely.proofs.three.fits.Statement.{statement}
 use Rattle.likely.proofs.three.fits.Tie as tie
-use Rattle.likely.proofs.three.fits.Reads as reads
-use Rattle.likely.proofs.three.fits.Lts as lts
-use Rattle.likely.proofs.parts.first_is.Reads as first-is-reads
-use Rattle.likely.proofs.rows.find_row.Reads as find-row-reads
-use Rattle.likely.proofs.three.cuts_of.Reads as cuts-of-reads
 
 find-row-requires : tie.Need-find-row-requires
 find-row-requires c κs = search needs

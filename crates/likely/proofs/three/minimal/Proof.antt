@@ -4,9 +4,6 @@ use Rattle.likely.proofs.Lookups.{ready-language, ready-region, ready-s
 use borrow.Author.Needs.{needs}
 use Rattle.likely.proofs.three.minimal.Statement.{statement}
 use Rattle.likely.proofs.three.minimal.Tie as tie
-use Rattle.likely.proofs.three.minimal.Reads as reads
-use Rattle.likely.proofs.three.minimal.Lts as lts
-use Rattle.likely.proofs.three.fits.Reads as fits-reads
 
 slice-aggregate-none : tie.Need-slice-aggregate-none
 slice-aggregate-none c = search needs

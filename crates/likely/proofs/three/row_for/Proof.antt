@@ -2,10 +2,6 @@ use Rattle.likely.proofs.Lookups.{filled-whole, filled-row}
 use borrow.Author.Needs.{needs}
 use Rattle.likely.proofs.three.row_for.Statement.{statement}
 use Rattle.likely.proofs.three.row_for.Tie as tie
-use Rattle.likely.proofs.three.row_for.Reads as reads
-use Rattle.likely.proofs.three.row_for.Lts as lts
-use Rattle.likely.proofs.parts.is_complete.Reads as is-complete-reads
-use Rattle.likely.proofs.rows.find_row.Reads as find-row-reads
 
 is-complete-requires : tie.Need-is-complete-requires
 is-complete-requires c κs = search needs

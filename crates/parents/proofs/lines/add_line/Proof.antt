@@ -2,9 +2,6 @@ use Rattle.parents.proofs.Writing.{more-fits, more-short}
 use borrow.Author.Needs.{needs}
 use Rattle.parents.proofs.lines.add_line.Statement.{statement}
 use Rattle.parents.proofs.lines.add_line.Tie as tie
-use Rattle.parents.proofs.lines.add_line.Reads as reads
-use Rattle.parents.proofs.lines.add_line.Lts as lts
-use Rattle.parents.proofs.lines.put_line.Reads as put-line-reads
 
 add-steps : tie.Need-add-steps
 add-steps c = search needs

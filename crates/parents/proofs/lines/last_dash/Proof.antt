@@ -6,8 +6,6 @@ use Rattle.parents.specs.Texts.{lastBelow, lastDash}
 use Rattle.parents.proofs.Writing.{last-here, last-below, last-none}
 use Rattle.parents.proofs.lines.last_dash.Statement.{statement}
 use Rattle.parents.proofs.lines.last_dash.Tie as tie
-use Rattle.parents.proofs.lines.last_dash.Reads as reads
-use Rattle.parents.proofs.lines.last_dash.Lts as lts
 
 abbrev Inv-loop : tie.InvT-loop
 Inv-loop id i₀ i = (i ≤ length id) × (lastDash id ≡ lastBelow i id)

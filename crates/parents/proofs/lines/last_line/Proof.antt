@@ -2,9 +2,6 @@ use Rattle.parents.proofs.Writing.{one-short, one-fits}
 use borrow.Author.Needs.{needs}
 use Rattle.parents.proofs.lines.last_line.Statement.{statement}
 use Rattle.parents.proofs.lines.last_line.Tie as tie
-use Rattle.parents.proofs.lines.last_line.Reads as reads
-use Rattle.parents.proofs.lines.last_line.Lts as lts
-use Rattle.parents.proofs.lines.put_line.Reads as put-line-reads
 
 add-end : tie.Need-add-end
 add-end c = search needs

@@ -5,10 +5,6 @@ use Rattle.parents.proofs.Writing.{cut-le, root-le, by-row, by-cut, by-
 use borrow.Author.Needs.{needs}
 use Rattle.parents.proofs.lines.parent_of.Statement.{statement}
 use Rattle.parents.proofs.lines.parent_of.Tie as tie
-use Rattle.parents.proofs.lines.parent_of.Reads as reads
-use Rattle.parents.proofs.lines.parent_of.Lts as lts
-use Rattle.parents.proofs.lines.last_dash.Reads as last-dash-reads
-use Rattle.parents.proofs.lines.row_of.Reads as row-of-reads
 
 row-of-requires : tie.Need-row-of-requires
 row-of-requires c κs = search needs

@@ -2,9 +2,6 @@ use Rattle.parents.proofs.Writing.{put-end}
 use borrow.Author.Needs.{needs}
 use Rattle.parents.proofs.lines.put_line.Statement.{statement}
 use Rattle.parents.proofs.lines.put_line.Tie as tie
-use Rattle.parents.proofs.lines.put_line.Reads as reads
-use Rattle.parents.proofs.lines.put_line.Lts as lts
-use Rattle.canonical.proofs.alias.put.Reads as put-reads
 
 put-requires : tie.Need-put-requires
 put-requires c κs = search needs

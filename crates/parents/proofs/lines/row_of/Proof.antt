@@ -4,9 +4,6 @@ use Rattle.parents.proofs.Writing.{no-value, no-row, value-found, row-f
 use borrow.Author.Needs.{needs}
 use Rattle.parents.proofs.lines.row_of.Statement.{statement}
 use Rattle.parents.proofs.lines.row_of.Tie as tie
-use Rattle.parents.proofs.lines.row_of.Reads as reads
-use Rattle.parents.proofs.lines.row_of.Lts as lts
-use Rattle.table.proofs.find_sorted.Reads as find-sorted-reads
 
 slice-aggregate-result : tie.Need-slice-aggregate-result
 slice-aggregate-result c = search needs

@@ -1,19 +1,14 @@
 use mathlib.Core.Path.{refl}
 use native.Mathlib.Omega.{arith}
 use Rattle.table.proofs.Hinting.{hinted-empty}
-use Rattle.likely.proofs.Formed.{canonicalised, formed-by, fits-by}
+use Rattle.canonical.proofs.Canonicalised.{canonicalised, formed-by, fits-by}
 use Rattle.parents.proofs.Chained.{chain-stands, form-bounds, chain-answer}
 use borrow.Author.Needs.{needs}
 use Rattle.parents.proofs.tested.chain_tested.Statement.{statement}
 use Rattle.parents.proofs.tested.chain_tested.Tie as tie
-use Rattle.parents.proofs.tested.chain_tested.Reads as reads
-use Rattle.parents.proofs.tested.chain_tested.Lts as lts
-use Rattle.canonical.proofs.form.canonical_form.Reads as canonical-form-reads
-use Rattle.parents.proofs.tested.blank.Reads as blank-reads
-use Rattle.parents.proofs.tested.list_form.Reads as list-form-reads
 
-blank-requires : tie.Need-blank-requires
-blank-requires c κs = search needs
+buffer-requires : tie.Need-buffer-requires
+buffer-requires c κs = search needs
 
 array-share-prefix-none : tie.Need-array-share-prefix-none
 array-share-prefix-none c = search needs
@@ -27,7 +22,7 @@ slice-aggregate-canonical-form-2 c = search needs
 canonical-form-requires : tie.Need-canonical-form-requires
 canonical-form-requires c κs =
     let b = c .before .before .before .before .before .before .before in
-    (b .pre .aliases .passes, c .before .before .blank .ensures, hinted-empty _)
+    (b .pre .aliases .passes, c .before .before .buffer .ensures, hinted-empty _)
 
 enum-known-c : tie.Need-enum-known-c
 enum-known-c c = search needs
@@ -69,7 +64,7 @@ pub chain-tested-spec : {M : Type 1} → statement M
 chain-tested-spec =
     tie.close
     (tie.spec
-    blank-requires
+    buffer-requires
     array-share-prefix-none
     slice-aggregate-canonical-form
     slice-aggregate-canonical-form-2

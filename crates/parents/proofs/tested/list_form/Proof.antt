@@ -7,9 +7,6 @@ use Rattle.parents.proofs.Writing.{cut-le}
 use borrow.Author.Needs.{needs}
 use Rattle.parents.proofs.tested.list_form.Statement.{statement}
 use Rattle.parents.proofs.tested.list_form.Tie as tie
-use Rattle.parents.proofs.tested.list_form.Reads as reads
-use Rattle.parents.proofs.tested.list_form.Lts as lts
-use Rattle.parents.proofs.lines.list.Reads as list-reads
 
 slice-aggregate-list : tie.Need-slice-aggregate-list
 slice-aggregate-list c = sym (length-take-le _ _ (omega arith))

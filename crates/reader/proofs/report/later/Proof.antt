@@ -22,13 +22,13 @@ word-of-requires : tie.Need-word-of-requires
 word-of-requires c κs = reports.later-short _ _ _ 0 [] (c .before .before .before .pre) (c .before .if1 .taken)
 
 returns : tie.Need-returns
-returns c = reports.later-there _ _ _ _ _ (c .before .before .if1 .taken) (c .word-of .ensures)
+returns c = (reports.later-there _ _ _ _ _ (c .before .before .if1 .taken) (c .word-of .ensures .0), c .word-of .ensures .1)
 
 absent-requires : tie.Need-absent-requires
 absent-requires c κs = search needs
 
 returns-2 : tie.Need-returns-2
-returns-2 c = reports.later-not _ _ _ _ _ (c .before .if1 .left) (c .absent .ensures)
+returns-2 c = (reports.later-not _ _ _ _ _ (c .before .if1 .left) (c .absent .ensures .0), c .absent .ensures .1)
 
 pub later-spec : {M : Type 1} → statement M
 later-spec =

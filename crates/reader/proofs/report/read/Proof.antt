@@ -60,35 +60,35 @@ refusal-requires-7 c κs = search needs
 
 returns : tie.Need-returns
 unfolding outcomeOf
-returns c = c .report-parts .ensures ∙ reports.report-good _ _ (ap outcomeOf (sym (c .before .before .r .given .1)) ∙ c .before .before .before .before .read-parts .ensures)
+returns c = (c .report-parts .ensures .0 ∙ reports.report-good _ _ (ap outcomeOf (sym (c .before .before .r .given .1)) ∙ c .before .before .before .before .read-parts .ensures), c .report-parts .ensures .1)
 
 returns-2 : tie.Need-returns-2
 unfolding outcomeOf
-returns-2 c = c .refusal .ensures ∙ reports.report-bad _ _ _ (ap outcomeOf (sym (c .before .enum-told .given .1)) ∙ c .before .before .before .read-parts .ensures)
+returns-2 c = (c .refusal .ensures .0 ∙ reports.report-bad _ _ _ (ap outcomeOf (sym (c .before .enum-told .given .1)) ∙ c .before .before .before .read-parts .ensures), c .refusal .ensures .1)
 
 returns-3 : tie.Need-returns-3
 unfolding outcomeOf
-returns-3 c = c .refusal2 .ensures ∙ reports.report-bad _ _ _ (ap outcomeOf (sym (c .before .enum-told2 .given .1)) ∙ c .before .before .before .read-parts .ensures)
+returns-3 c = (c .refusal2 .ensures .0 ∙ reports.report-bad _ _ _ (ap outcomeOf (sym (c .before .enum-told2 .given .1)) ∙ c .before .before .before .read-parts .ensures), c .refusal2 .ensures .1)
 
 returns-4 : tie.Need-returns-4
 unfolding outcomeOf
-returns-4 c = c .refusal3 .ensures ∙ reports.report-bad _ _ _ (ap outcomeOf (sym (c .before .before .r2 .given .1)) ∙ c .before .before .before .before .read-parts .ensures)
+returns-4 c = (c .refusal3 .ensures .0 ∙ reports.report-bad _ _ _ (ap outcomeOf (sym (c .before .before .r2 .given .1)) ∙ c .before .before .before .before .read-parts .ensures), c .refusal3 .ensures .1)
 
 returns-5 : tie.Need-returns-5
 unfolding outcomeOf
-returns-5 c = c .refusal4 .ensures ∙ reports.report-bad _ _ _ (ap outcomeOf (sym (c .before .before .r3 .given .1)) ∙ c .before .before .before .before .read-parts .ensures)
+returns-5 c = (c .refusal4 .ensures .0 ∙ reports.report-bad _ _ _ (ap outcomeOf (sym (c .before .before .r3 .given .1)) ∙ c .before .before .before .before .read-parts .ensures), c .refusal4 .ensures .1)
 
 returns-6 : tie.Need-returns-6
 unfolding outcomeOf
-returns-6 c = c .refusal5 .ensures ∙ reports.report-bad _ _ _ (ap outcomeOf (sym (c .before .before .r4 .given .1)) ∙ c .before .before .before .before .read-parts .ensures)
+returns-6 c = (c .refusal5 .ensures .0 ∙ reports.report-bad _ _ _ (ap outcomeOf (sym (c .before .before .r4 .given .1)) ∙ c .before .before .before .before .read-parts .ensures), c .refusal5 .ensures .1)
 
 returns-7 : tie.Need-returns-7
 unfolding outcomeOf
-returns-7 c = c .refusal6 .ensures ∙ reports.report-bad _ _ _ (ap outcomeOf (sym (c .before .before .r5 .given .1)) ∙ c .before .before .before .before .read-parts .ensures)
+returns-7 c = (c .refusal6 .ensures .0 ∙ reports.report-bad _ _ _ (ap outcomeOf (sym (c .before .before .r5 .given .1)) ∙ c .before .before .before .before .read-parts .ensures), c .refusal6 .ensures .1)
 
 returns-8 : tie.Need-returns-8
 unfolding outcomeOf
-returns-8 c = c .refusal7 .ensures ∙ reports.report-bad _ _ _ (ap outcomeOf (sym (c .before .before .r6 .given .1)) ∙ c .before .before .before .before .read-parts .ensures)
+returns-8 c = (c .refusal7 .ensures .0 ∙ reports.report-bad _ _ _ (ap outcomeOf (sym (c .before .before .r6 .given .1)) ∙ c .before .before .before .before .read-parts .ensures), c .refusal7 .ensures .1)
 
 pub read-spec : {M : Type 1} → statement M
 read-spec =

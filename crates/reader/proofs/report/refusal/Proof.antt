@@ -16,7 +16,11 @@ absent-requires-3 c κs = search needs
 
 returns : tie.Need-returns
 unfolding reportIs
-returns c = reports.refused-words _ _ _ _ _ (c .before .before .absent .ensures) (c .before .absent2 .ensures) (c .absent3 .ensures)
+returns c =
+    let l = c .before .before .absent .ensures in
+    let s = c .before .absent2 .ensures in
+    let g = c .absent3 .ensures in
+    (reports.refused-words _ _ _ _ _ (l .0) (s .0) (g .0), record { language = l .1; script = s .1; region = g .1 })
 
 pub refusal-spec : {M : Type 1} → statement M
 refusal-spec = tie.close (tie.spec absent-requires absent-requires-2 absent-requires-3 returns)

@@ -51,13 +51,13 @@ filled-requires-3 : tie.Need-filled-requires-3
 filled-requires-3 c κs = search needs
 
 returns : tie.Need-returns
-returns c = let q = c .before .before .before .before .before .before .before .pre in c .filled .ensures ∙ reports.report-language _ _ (q .0) (q .1) (c .before .before .before .before .enum-told .given .1) _ _ _ (c .before .word-of .ensures) (c .before .before .before .later .ensures) (c .before .before .later2 .ensures)
+returns c = let q = c .before .before .before .before .before .before .before .pre in (c .filled .ensures .0 ∙ reports.report-language _ _ (q .0) (q .1) (c .before .before .before .before .enum-told .given .1) _ _ _ (c .before .word-of .ensures .0) (c .before .before .before .later .ensures .0) (c .before .before .later2 .ensures .0), c .filled .ensures .1)
 
 returns-2 : tie.Need-returns-2
-returns-2 c = let q = c .before .before .before .before .before .before .before .pre in c .filled2 .ensures ∙ reports.report-script _ _ (q .0) (q .1) (c .before .before .before .before .enum-told2 .given .1) _ _ _ (c .before .before .und .ensures) (c .before .word-of2 .ensures) (c .before .before .before .later3 .ensures)
+returns-2 c = let q = c .before .before .before .before .before .before .before .pre in (c .filled2 .ensures .0 ∙ reports.report-script _ _ (q .0) (q .1) (c .before .before .before .before .enum-told2 .given .1) _ _ _ (c .before .before .und .ensures .0) (c .before .word-of2 .ensures .0) (c .before .before .before .later3 .ensures .0), c .filled2 .ensures .1)
 
 returns-3 : tie.Need-returns-3
-returns-3 c = let q = c .before .before .before .before .before .before .before .pre in c .filled3 .ensures ∙ reports.report-root _ _ (q .0) (q .1) (c .before .before .before .before .enum-told3 .given .1) _ _ _ (c .before .before .before .und2 .ensures) (c .before .before .absent .ensures) (c .before .absent2 .ensures)
+returns-3 c = let q = c .before .before .before .before .before .before .before .pre in (c .filled3 .ensures .0 ∙ reports.report-root _ _ (q .0) (q .1) (c .before .before .before .before .enum-told3 .given .1) _ _ _ (c .before .before .before .und2 .ensures .0) (c .before .before .absent .ensures .0) (c .before .absent2 .ensures .0), c .filled3 .ensures .1)
 
 pub report-parts-spec : {M : Type 1} → statement M
 report-parts-spec =

@@ -24,13 +24,13 @@ is-separator-requires : tie.Need-is-separator-requires Inv-loop μ-loop
 is-separator-requires c κs = search needs
 
 returns : tie.Need-returns Inv-loop μ-loop
-returns c = words.wording-sep _ _ _ _ (c .before .before .before .before .loop .inv) (c .before .before .before .loop-test .taken) (sym (c .before .is-separator .ensures) ∙ c .if1 .taken)
+returns c = let l = c .before .before .before .before .loop .inv in (words.wording-sep _ _ _ _ l (c .before .before .before .loop-test .taken) (sym (c .before .is-separator .ensures) ∙ c .if1 .taken), words.wording-few _ _ _ _ l)
 
 lower-requires : tie.Need-lower-requires Inv-loop μ-loop
 lower-requires c κs = search needs
 
-cased-requires : tie.Need-cased-requires Inv-loop μ-loop
-cased-requires c κs = search needs
+raise-requires : tie.Need-raise-requires Inv-loop μ-loop
+raise-requires c κs = search needs
 
 array-write-bytes : tie.Need-array-write-bytes Inv-loop μ-loop
 array-write-bytes c = words.wording-room _ _ _ _ (c .before .before .before .before .before .before .loop .inv) (c .before .before .before .before .before .loop-test .taken) (sym (c .before .before .before .is-separator .ensures) ∙ c .before .before .if1 .left)
@@ -42,10 +42,10 @@ loop-less : tie.Need-loop-less Inv-loop μ-loop
 loop-less c = omega arith
 
 loop-again : tie.Need-loop-again Inv-loop μ-loop
-loop-again c = words.wording-more _ _ _ _ (c .before .before .before .before .before .before .loop .inv) _ _ (c .before .before .before .before .before .loop-test .taken) (sym (c .before .before .before .is-separator .ensures) ∙ c .before .before .if1 .left) (c .before .lower .ensures) (c .cased .ensures)
+loop-again c = words.wording-more _ _ _ _ (c .before .before .before .before .before .before .loop .inv) _ _ (c .before .before .before .before .before .loop-test .taken) (sym (c .before .before .before .is-separator .ensures) ∙ c .before .before .if1 .left) (c .before .lower .ensures) (c .raise .ensures)
 
 returns-2 : tie.Need-returns-2 Inv-loop μ-loop
-returns-2 c = words.wording-end _ _ _ _ (c .before .loop .inv) (c .loop-test .left)
+returns-2 c = (words.wording-end _ _ _ _ (c .before .loop .inv) (c .loop-test .left), words.wording-few _ _ _ _ (c .before .loop .inv))
 
 pub word-of-spec : {M : Type 1} → statement M
 word-of-spec =
@@ -58,7 +58,7 @@ word-of-spec =
     is-separator-requires
     returns
     lower-requires
-    cased-requires
+    raise-requires
     array-write-bytes
     add-len
     loop-less

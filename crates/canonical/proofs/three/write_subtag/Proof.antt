@@ -1,83 +1,64 @@
--- `canonical::three::write_script` meets its contract. Assumes nothing.
+-- `canonical::three::write_subtag` meets its contract. Assumes nothing.
 use native.Mathlib.Omega.{arith}
 use mathlib.Core.Path.{ap, _∙_}
 use mathlib.Core.List.{List}
-use Prim.Native.Nat.{ℕ, _+_, _-_}
+use Prim.Native.Nat.{ℕ, _+_}
 use lib.ListN.{length}
 use lib.Seq.{sets}
 use Rattle.canonical.proofs.Places as places
 use borrow.Author.Needs.{needs}
-use Rattle.canonical.proofs.three.write_script.Statement.{statement}
-use Rattle.canonical.proofs.three.write_script.Tie as tie
+use Rattle.canonical.proofs.three.write_subtag.Statement.{statement}
+use Rattle.canonical.proofs.three.write_subtag.Tie as tie
 
--- src/three.rt:64:9
-script-start-requires : tie.Need-script-start-requires
-script-start-requires c κs = search needs
-
--- src/three.rt:65:9
 after-separator-requires : tie.Need-after-separator-requires
 after-separator-requires c κs = search needs
 
--- src/three.rt:66:19
 sub-write-aliased : tie.Need-sub-write-aliased
 sub-write-aliased c = search needs
 
--- src/three.rt:66:19
 part-write-aliased-start : tie.Need-part-write-aliased-start
 part-write-aliased-start c = search needs
 
--- src/three.rt:66:19
 part-write-aliased-end : tie.Need-part-write-aliased-end
 part-write-aliased-end c = search needs
 
--- src/three.rt:66:38
 sub-write-aliased-2 : tie.Need-sub-write-aliased-2
 sub-write-aliased-2 c = search needs
 
--- src/three.rt:66:38
 part-write-aliased-start-2 : tie.Need-part-write-aliased-start-2
 part-write-aliased-start-2 c = search needs
 
--- src/three.rt:66:38
 part-write-aliased-end-2 : tie.Need-part-write-aliased-end-2
 part-write-aliased-end-2 c = search needs
 
--- src/three.rt:66:49
-slice-aggregate-write-aliased : tie.Need-slice-aggregate-write-aliased
-slice-aggregate-write-aliased c = search needs
-
--- src/three.rt:66:5
 write-aliased-requires : tie.Need-write-aliased-requires
 write-aliased-requires c κs =
-    let d = c .before .before .before .before in
+    let d = c .before .before .before in
     let b = d .before .before .before .before .before .before .before in
     let a = b .args in
-    let e = places.script-is (a .aliases .now) (a .id .now) (a .w .now) _ _ _ _ _ _ (d .before .script-start .ensures .0) (d .after-separator .ensures .0) in (
-      places.slice-small (a .id .now) (d .before .script-start .result) (a .script) 8 (omega (arith, d .before .script-start .ensures .0)),
+    let e = places.part-is (a .aliases .now) (a .name .now) (a .id .now) (a .w .now) (a .count) (a .start) (a .end) _ _ _ (d .after-separator .ensures .0) in (
+      places.slice-small (a .id .now) (a .start) (a .end) 8 (b .pre .2),
       places.slice-small (a .w .now) (d .after-separator .result) (a .to) 8 (omega (arith, d .after-separator .ensures .0)),
-      omega arith,
-      b .pre .6,
+      b .pre .3,
+      b .pre .7,
       omega (arith, ap length e),
     )
 
--- src/three.rt:60:1
 same-length : tie.Need-same-length
 same-length c = search needs
 
--- src/three.rt:60:1
 returns : tie.Need-returns
 returns c =
     let p = c .before .before in
-    let d = p .before .before .before .before .before in
+    let d = p .before .before .before .before in
     let a = d .before .before .before .before .before .before .before .args in
-    let e = places.script-is (a .aliases .now) (a .id .now) (a .w .now) _ _ _ _ _ _ (d .before .script-start .ensures .0) (d .after-separator .ensures .0) in
+    let e = places.part-is (a .aliases .now) (a .name .now) (a .id .now) (a .w .now) (a .count) (a .start) (a .end) _ _ _ (d .after-separator .ensures .0) in
     (p .write-aliased .ensures .0 ∙ ap (λ (x : List ℕ). a .at + length x) e, p .write-aliased .ensures .1 ∙ ap (sets (a .out .now) (a .at)) e)
 
-pub write-script-spec : {M : Type 1} → statement M
-write-script-spec =
+pub write-subtag-spec : {M : Type 1} → statement M
+write-subtag-spec =
     tie.close
     (tie.spec
-    script-start-requires
     after-separator-requires
     sub-write-aliased
     part-write-aliased-start
@@ -85,7 +66,6 @@ write-script-spec =
     sub-write-aliased-2
     part-write-aliased-start-2
     part-write-aliased-end-2
-    slice-aggregate-write-aliased
     write-aliased-requires
     same-length
     returns)
