@@ -4,8 +4,8 @@ use mathlib.Core.Path.{_≡_, sym}
 use mathlib.Core.Bool.{true, false}
 use Prim.Native.Nat.{_+_, _*_, _≤_, _<_}
 use borrow.Author.Tests.{le-leb, lt-leb}
-use Rattle.standard.specs.Table.{Found as Located}
 use Rattle.probe.specs.Codes.{foundCode}
+use Rattle.standard.specs.Table.{Found as Located}
 
 module _ (f : Located) where
   pub far-start : 2147483648 ≤ f .start → 18446744073709551615 ≡ foundCode f

@@ -21,19 +21,19 @@ use Rattle.verdict.specs.Verdicts.{verdictIs}
 use Rattle.canonical.specs.declared.delivery.Answer.{Answer}
 use Rattle.canonical.specs.Answer.{answerOf, refusedTable}
 use Rattle.canonical.proofs.Delivers.{after-good, table-stands}
-use Rattle.likely.specs.declared.tested.Answered.{Answered as LikelyAnswered}
-use Rattle.likely.specs.Answered.{givenAnswered as givenLikely}
 use Rattle.likely.specs.Both.{operationOf}
-use Rattle.likely.specs.Whole.{answerBy as likelyAnswer}
 use Rattle.likely.proofs.Checked as likely
-use Rattle.parents.specs.declared.tested.Answered.{Answered as ChainAnswered}
-use Rattle.parents.specs.Answered.{givenAnswered as givenChain}
-use Rattle.parents.specs.Whole.{answerBy as chainAnswer}
 use Rattle.parents.proofs.Checked as parents
 use Rattle.store.specs.Packed.{packed, unpacked}
 use Rattle.store.proofs.Sizes.{Small, canonicalise-small, maximise-small, minimise-small, list-small}
 use Rattle.store.proofs.Packs.{unpacks}
 use Rattle.probe.specs.Exported.{checkFor, madeFor}
+use Rattle.likely.specs.declared.tested.Answered.{Answered as LikelyAnswered}
+use Rattle.likely.specs.Answered.{givenAnswered as givenLikely}
+use Rattle.likely.specs.Whole.{answerBy as likelyAnswer}
+use Rattle.parents.specs.declared.tested.Answered.{Answered as ChainAnswered}
+use Rattle.parents.specs.Answered.{givenAnswered as givenChain}
+use Rattle.parents.specs.Whole.{answerBy as chainAnswer}
 
 given-twice : (m : Made) (out : Bytes) → given m ((given m out) .output) ≡ given m out
 unfolding given

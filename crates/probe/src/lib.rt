@@ -7,9 +7,12 @@ ghost use lib.ListN.{length};
 ghost use Rattle.standard.specs.Table.{located, check as checkOf};
 ghost use Rattle.table.specs.Lines.{foundIs};
 ghost use Rattle.table.specs.Search.{Sorted};
-ghost use Rattle.table.specs.Hints.{Hinted, Indexed};
 ghost use Rattle.verdict.specs.Verdicts.{verdictIs};
 ghost use Rattle.probe.specs.Codes.{foundCode, faultCode};
+use table::hints::few;
+use table::hints::fill_hints;
+use table::hints::find_hinted;
+use table::hints::many;
 use verdict::Verdict;
 
 pub mod reads;
@@ -31,22 +34,19 @@ pub extern "C" fn probe_sorted(t: &[u8], key: &[u8]) -> u64
     code_found(table::find_sorted(t, key))
 }
 
-// Makes the hints of a table, if there is room for all of them.
+// The same by hints, which are made for this one key: few of a small table, as the check has them.
 #[no_mangle]
-pub extern "C" fn probe_fill(t: &[u8], hints: &mut [u16])
-    ensures { λ _. ⌜ (length (now (hints .entry)) ≡ 16384 → Hinted (now (t .entry)) (now (hints .exit))) ⌝ }
+pub extern "C" fn probe_hinted(t: &[u8], key: &[u8]) -> u64
+    ensures { λ r. ⌜ (Sorted (now (t .entry)) → r ≡ foundCode (located (now (t .entry)) (now (key .entry)))) ⌝ }
 {
-    if hints.len() == 16384 {
-        table::hints::fill_hints(t, hints);
+    if t.len() <= 2048 {
+        let mut hints = few();
+        fill_hints(t, &mut hints);
+        return code_found(find_hinted(t, &hints, key));
     }
-}
-
-// The lookup by hints, of a sorted table.
-#[no_mangle]
-pub extern "C" fn probe_hinted(t: &[u8], hints: &[u16], key: &[u8]) -> u64
-    ensures { λ r. ⌜ (Indexed (now (t .entry)) (now (hints .entry)) → r ≡ foundCode (located (now (t .entry)) (now (key .entry)))) ⌝ }
-{
-    code_found(table::hints::find_hinted(t, hints, key))
+    let mut hints = many();
+    fill_hints(t, &mut hints);
+    code_found(find_hinted(t, &hints, key))
 }
 
 fn code_found(f: table::Found) -> u64

@@ -6,10 +6,10 @@ use likely::tested::form_hinted;
 use parents::tested::chain_tested;
 use store::pack;
 use table::hints::fill_hints;
+use table::hints::many;
 use verdict::Verdict;
 ghost use mathlib.Core.Path.{_≡_};
 ghost use mathlib.Core.Option.{none};
-ghost use lib.ListN.{length};
 ghost use Rattle.standard.specs.Delivery.{given};
 ghost use Rattle.table.specs.Hints.{Hinted};
 ghost use Rattle.verdict.specs.Verdicts.{verdictIs};
@@ -103,13 +103,6 @@ pub extern "C" fn probe_repeat(
     repeated(operation, id, aliases, empty, other, empty, out, times)
 }
 
-// Room for the hints of a table.
-fn no_hints() -> [u16; 16384]
-    ensures { λ r. ⌜ length r ≡ 16384 ⌝ }
-{
-    [0u16; 16384]
-}
-
 // The same with hints, made once.
 #[no_mangle]
 pub extern "C" fn probe_repeat_hinted(
@@ -126,9 +119,9 @@ pub extern "C" fn probe_repeat_hinted(
     let Verdict::Good = v else {
         return pack(refused_table(v));
     };
-    let mut a = no_hints();
+    let mut a = many();
     fill_hints(aliases, &mut a);
-    let mut o = no_hints();
+    let mut o = many();
     fill_hints(other, &mut o);
     repeated(operation, id, aliases, &a, other, &o, out, times)
 }

@@ -5,98 +5,25 @@ use mathlib.Core.Bool.{Bool, true, false, cond, not, _&&_, or-false}
 use mathlib.Core.List.{List, [], _∷_, _++_, head-eq-of-cons-eq, tail-eq-of-cons-eq}
 use Prim.Native.Nat.{ℕ, _+_, _-_, _≤_, _<_}
 use native.Mathlib.Omega.{arith}
-use lib.ListN.{length, take, drop, length-drop, length-append}
-use borrow.Author.Tests.{lt-ltb}
-use native.Mathlib.Numerals.{add-one}
-use lib.Seq.{take-all}
+use lib.ListN.{length, take, drop, length-append}
 use Rattle.standard.specs.Tag.{Tag, order, same, present}
 use Rattle.standard.specs.Grammar.{isLanguage}
 use Rattle.standard.specs.Identifier.{Three as Subtags, three, und, zzzz, zz, complete, without, withoutUnknown, sameThree}
-use Rattle.standard.specs.Table.{pieces, parse, isThree, isUnd, isVariantTag, aliasShape, likelyShape, parentShape}
+use Rattle.standard.specs.Table.{parse, isUnd, isVariantTag, aliasShape}
 use Rattle.standard.proofs.Tags.{same-eq, same-refl}
 use Rattle.standard.proofs.Bytes.{bool-cases, clash}
-use Rattle.table.specs.Lines.{endOf}
-use Rattle.rows.specs.declared.Fields.{Fields}
-use Rattle.rows.specs.declared.Three.{Three}
-use Rattle.rows.specs.declared.AliasKind.{AliasKind}
-use Rattle.rows.specs.declared.AliasKind.the-variants.{Language, Script, Region, Variant, Unknown}
-use Rattle.rows.specs.Shapes.{isScript, isRegion, between, others, ThreeAt}
-use Rattle.rows.specs.Rows.{isTwo, FieldsAt, isKnown, knownParts, languageName, scriptName, regionName, variantName, pickKind, kindNamed, languageAlias, shapeBy, fieldsBy}
+use Rattle.rows.specs.declared.three.Three.{Three}
+use Rattle.rows.specs.declared.aliases.AliasKind.{AliasKind}
+use Rattle.rows.specs.declared.aliases.AliasKind.the-variants.{Language, Script, Region, Variant, Unknown}
+use Rattle.rows.specs.Shapes.{isScript, isRegion, between, ThreeAt}
+use Rattle.rows.specs.Rows.{isKnown, knownParts, languageName, scriptName, regionName, variantName, pickKind, kindNamed, languageAlias, shapeBy}
 use Rattle.rows.proofs.Tags.{both-ways}
-use Rattle.rows.proofs.Pieces.{pieces-first, others-at, others-none, all-from}
 
 no : {P : Type 0} → false ≡ true → P
 no e = clash {b = true} refl (sym e)
 
--- Two fields.
-module _ (s : List ℕ) (a : ℕ) (q : a ≡ endOf 9 s 0) where
-  abbrev none : Fields
-  none = record { ok = false; tab = 0 }
-
-  pub one-field : length s ≤ a → FieldsAt s none
-  unfolding isTwo
-  one-field h = record { is = sym (ap isTwo (pieces-first 9 s a q ∙ ap (_∷_ (take a s)) (others-none 9 s a h))); room = no; fields = no }
-
-  module _ (b : ℕ) (h : a < length s) (r : b ≡ endOf 9 s (a + 1)) where
-    two-or-more : pieces 9 s ≡ take a s ∷ between s a b ∷ others 9 s b
-    two-or-more = pieces-first 9 s a q ∙ ap (_∷_ (take a s)) (others-at 9 s a b h r)
-
-    pub more-fields : b < length s → FieldsAt s none
-    unfolding isTwo
-    more-fields g =
-        let o = others-at 9 s b (endOf 9 s (b + 1)) g refl in
-        record { is = sym (ap isTwo (two-or-more ∙ ap (λ (ts : List Tag). take a s ∷ between s a b ∷ ts) o)); room = no; fields = no }
-
-    pub just-two : length s ≤ b → FieldsAt s (record { ok = true; tab = a })
-    unfolding isTwo
-    just-two g =
-        let t : between s a b ≡ drop (a + 1) s = take-all (b - (a + 1)) (drop (a + 1) s) (simp length-drop (omega arith)) in
-        let p : pieces 9 s ≡ take a s ∷ drop (a + 1) s ∷ [] = two-or-more ∙ ap₂ (λ (x : Tag) (ts : List Tag). take a s ∷ x ∷ ts) t (others-none 9 s b g) in
-        record { is = sym (ap isTwo p); room = λ _. h; fields = λ _. p }
-
--- a shape that asks for two fields
-likely-two : (ts : List Tag) → isTwo ts ≡ false → likelyShape ts ≡ false
-unfolding isTwo likelyShape
-likely-two [] e = refl
-likely-two (a ∷ []) e = refl
-likely-two (a ∷ b ∷ []) e = clash refl e
-likely-two (a ∷ b ∷ c ∷ ts) e = refl
-
-parent-two : (ts : List Tag) → isTwo ts ≡ false → parentShape ts ≡ false
-unfolding isTwo parentShape
-parent-two [] e = refl
-parent-two (a ∷ []) e = refl
-parent-two (a ∷ b ∷ []) e = clash refl e
-parent-two (a ∷ b ∷ c ∷ ts) e = refl
-
-by-two : (k : AliasKind) (ts : List Tag) → isTwo ts ≡ false → fieldsBy k ts ≡ false
-unfolding isTwo fieldsBy
-by-two k [] e = refl
-by-two k (a ∷ []) e = refl
-by-two k (a ∷ b ∷ []) e = clash refl e
-by-two k (a ∷ b ∷ c ∷ ts) e = refl
-
-module _ (s : List ℕ) (r : Fields) (f : FieldsAt s r) where
-  pub not-likely : r .ok ≡ false → false ≡ likelyShape (pieces 9 s)
-  not-likely e = sym (likely-two (pieces 9 s) (sym (f .is) ∙ e))
-
-  pub not-parent : r .ok ≡ false → false ≡ parentShape (pieces 9 s)
-  not-parent e = sym (parent-two (pieces 9 s) (sym (f .is) ∙ e))
-
-  pub not-by : (k : AliasKind) → r .ok ≡ false → false ≡ fieldsBy k (pieces 9 s)
-  not-by k e = sym (by-two k (pieces 9 s) (sym (f .is) ∙ e))
-
-  pub likely-fields : r .ok ≡ true → likelyShape (pieces 9 s) ≡ (isThree (take (r .tab) s) && isKnown (drop (r .tab + 1) s))
-  unfolding likelyShape isKnown
-  likely-fields e = ap likelyShape (f .fields e)
-
-  pub parent-fields : r .ok ≡ true → parentShape (pieces 9 s) ≡ (isThree (take (r .tab) s) && (not (same (take (r .tab) s) und) && isThree (drop (r .tab + 1) s)))
-  unfolding parentShape
-  parent-fields e = ap parentShape (f .fields e)
-
-  pub by-fields : (k : AliasKind) → r .ok ≡ true → fieldsBy k (pieces 9 s) ≡ shapeBy k (take (r .tab) s) (drop (r .tab + 1) s)
-  unfolding fieldsBy
-  by-fields k e = ap (fieldsBy k) (f .fields e)
+pub lengths-differ : (a b : Tag) → (length a ≡ length b → ⊥) → false ≡ same a b
+lengths-differ a b h = sym (bool-cases (same a b) (λ e. absurd (h (ap length (same-eq a b e)))) (λ e. e))
 
 -- A known value, by its parts.
 known-one : (z t : Tag) → present t ≡ true → same (without z t) t ≡ not (same t z)
@@ -121,10 +48,6 @@ known-tests l s r =
     tests false false c = refl
 
 module _ (s : List ℕ) (r : Three) (t : ThreeAt s r) where
-  pub known-not : r .ok ≡ false → false ≡ isKnown s
-  unfolding isKnown
-  known-not e = sym (rw (sym (t .is) ∙ e))
-
   pub known-is : r .ok ≡ true → knownParts (take (r .language) s) (between s (r .language) (r .script)) (drop (r .script + 1) s) ≡ isKnown s
   unfolding isKnown
   known-is e = sym (rw (sym (t .is) ∙ e, t .parts e) (known-tests (take (r .language) s) (between s (r .language) (r .script)) (drop (r .script + 1) s)))
@@ -205,23 +128,6 @@ module _ (key value : Tag) where
       (λ c. bool-cases (same kind variantName) (λ d. rw (a, b, c, d) (ap (λ (k : Tag). aliasShape (k ∷ key ∷ value ∷ [])) (same-eq kind variantName d) ∙ shape-variant))
       (λ d. rw (a, b, c, d) (shape-unknown kind a b c d)))))
 
-pub alias-fields : (kind : Tag) (ts : List Tag) → aliasShape (kind ∷ ts) ≡ fieldsBy (kindNamed kind) ts
-unfolding aliasShape fieldsBy
-alias-fields kind [] = refl
-alias-fields kind (a ∷ []) = refl
-alias-fields kind (key ∷ value ∷ []) = alias-by key value kind
-alias-fields kind (a ∷ b ∷ c ∷ ts) = refl
-
--- the row by the place of its first tab
-module _ (s : List ℕ) (a : ℕ) (q : a ≡ endOf 9 s 0) where
-  pub alias-one : length s ≤ a → false ≡ aliasShape (pieces 9 s)
-  unfolding aliasShape
-  alias-one h = sym (ap aliasShape (pieces-first 9 s a q ∙ ap (_∷_ (take a s)) (others-none 9 s a h)))
-
-  pub alias-rest : a < length s → aliasShape (pieces 9 s) ≡ fieldsBy (kindNamed (take a s)) (pieces 9 (drop (a + 1) s))
-  unfolding others
-  alias-rest h = ap aliasShape (pieces-first 9 s a q) ∙ alias-fields (take a s) (others 9 s a) ∙ rw (lt-ltb a (length s) h, add-one)
-
 -- the kind by the branches
 module _ (w : Tag) where
   pub named-language : same w languageName ≡ true → Language ≡ kindNamed w
@@ -244,23 +150,6 @@ module _ (w : Tag) where
 pub und-language : (s : List ℕ) (r : Three) → ThreeAt s r → r .ok ≡ true → isUnd (parse s) ≡ same (take (r .language) s) und
 unfolding isUnd
 und-language s r t e = ap (λ (x : Subtags). same (x .language) und) (t .parts e)
-
--- The branches of the row judges.
-module _ (s : List ℕ) (f : Fields) (a : FieldsAt s f) (e : f .ok ≡ true) (k : Three) (t : ThreeAt (take (f .tab) s) k) where
-  pub likely-key : k .ok ≡ false → false ≡ likelyShape (pieces 9 s)
-  likely-key g = sym (likely-fields s f a e ∙ rw (sym (t .is) ∙ g))
-
-  pub likely-value : (r : Bool) → k .ok ≡ true → r ≡ isKnown (take (length s - (f .tab + 1)) (drop (f .tab + 1) s)) → r ≡ likelyShape (pieces 9 s)
-  likely-value r g h = h ∙ ap isKnown (all-from (f .tab + 1) s) ∙ sym (likely-fields s f a e ∙ rw (sym (t .is) ∙ g))
-
-  pub parent-key : k .ok ≡ false → false ≡ parentShape (pieces 9 s)
-  parent-key g = sym (parent-fields s f a e ∙ rw (sym (t .is) ∙ g))
-
-  pub parent-und : k .ok ≡ true → same (take (f .tab) s) und ≡ true → false ≡ parentShape (pieces 9 s)
-  parent-und g h = sym (parent-fields s f a e ∙ rw (sym (t .is) ∙ g, h))
-
-  pub parent-value : (v : Three) → k .ok ≡ true → same (take (f .tab) s) und ≡ false → ThreeAt (take (length s - (f .tab + 1)) (drop (f .tab + 1) s)) v → v .ok ≡ parentShape (pieces 9 s)
-  parent-value v g h w = w .is ∙ ap isThree (all-from (f .tab + 1) s) ∙ sym (parent-fields s f a e ∙ rw (sym (t .is) ∙ g, h))
 
 -- a language alias
 module _ (key value : Tag) where

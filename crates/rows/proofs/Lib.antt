@@ -4,3 +4,5 @@ pub mod Threes
 pub mod Judges
 pub mod Passes
 pub mod Sorted
+pub mod Fronts
+pub mod Texts

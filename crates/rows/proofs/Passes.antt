@@ -1,7 +1,7 @@
 -- The pass over the rows of a table: 12 and 13.
 -- Assumes nothing.
 use mathlib.Core.Path.{_≡_, refl, sym, ap, ap₂, _∙_}
-use mathlib.Core.Bool.{Bool, true, false, cond, not}
+use mathlib.Core.Bool.{Bool, true, false, cond}
 use mathlib.Core.Logic.{_⊎_, ⊎-elim}
 use mathlib.Core.List.{List, [], _∷_, _++_, cons≢nil, head-eq-of-cons-eq, tail-eq-of-cons-eq}
 use mathlib.Core.Option.{Option, none, some}
@@ -12,7 +12,7 @@ use native.Mathlib.Nat.{le-of-suc-le-suc, not-suc-le-zero}
 use lib.Dec.{eqb}
 use lib.ListN.{length, getD, take, drop, take-append-drop, length-take, length-drop, drop-of-length-le}
 use lib.Seq.{take-take, drop-cons, length-take-le}
-use borrow.Author.Tests.{lt-ltb, le-leb, lt-leb, eqb-true}
+use borrow.Author.Tests.{lt-ltb, lt-leb, eqb-true}
 use Rattle.standard.specs.Tag.{Tag, andThen, order}
 use Rattle.standard.specs.Reading.{Fault, fault}
 use Rattle.standard.specs.Grammar.{isLanguage, languageSize, sizeOf}
@@ -95,11 +95,11 @@ take-over : (x y : List ℕ) (n : ℕ) → take (length x + n) (x ++ y) ≡ x ++
 take-over [] y n = let z : 0 + n ≡ n = omega arith in rw z
 take-over (a ∷ x) y n = let z : suc (length x) + n ≡ suc (length x + n) = omega arith in rw z (ap (_∷_ a) (take-over x y n))
 
--- a row is what stands before a tab, the tab, and the rest
-pub row-split : (l : List ℕ) (i e : ℕ) → e ≡ endOf 9 l i → e < length l → l ≡ take e l ++ (9 ∷ drop (e + 1) l)
-row-split l i e q h =
-    let b : getD l e 0 ≡ 9 = ap (λ (k : ℕ). getD l k 0) q ∙ end-byte 9 l i (rw q at h) ∙ refl in
-    sym (take-append-drop e l) ∙ ap (λ (x : List ℕ). take e l ++ x) (drop-cons l e 0 h ∙ ap₂ _∷_ b (ap (λ (k : ℕ). drop k l) (sym (add-one e))))
+-- a text is what stands before a byte, the byte, and the rest
+pub row-split : (b : ℕ) (l : List ℕ) (i e : ℕ) → e ≡ endOf b l i → e < length l → l ≡ take e l ++ (b ∷ drop (e + 1) l)
+row-split b l i e q h =
+    let c : getD l e 0 ≡ b = ap (λ (k : ℕ). getD l k 0) q ∙ end-byte b l i (rw q at h) ∙ refl in
+    sym (take-append-drop e l) ∙ ap (λ (x : List ℕ). take e l ++ x) (drop-cons l e 0 h ∙ ap₂ _∷_ c (ap (λ (k : ℕ). drop k l) (sym (add-one e))))
 
 -- the fields of a row, by its tabs
 module _ (l : List ℕ) where
@@ -144,7 +144,7 @@ module _ (l : List ℕ) where
       let n : length (take tab l) ≡ tab = length-take-le tab l (omega arith) in
       let u : b ≡ length (take tab l) + suc (b - (tab + 1)) = omega (arith, d .low) in
       let w : take b l ≡ a ++ (9 ∷ k) =
-      ap₂ take u (row-split l 0 tab refl h) ∙ take-over (take tab l) (9 ∷ drop (tab + 1) l) (suc (b - (tab + 1))) ∙ ap₂ (λ (x y : List ℕ). x ++ (9 ∷ y)) (t .front) (head-eq-of-cons-eq q) in
+      ap₂ take u (row-split 9 l 0 tab refl h) ∙ take-over (take tab l) (9 ∷ drop (tab + 1) l) (suc (b - (tab + 1))) ∙ ap₂ (λ (x y : List ℕ). x ++ (9 ∷ y)) (t .front) (head-eq-of-cons-eq q) in
       let x = lt-leb (length l) tab h in
       record { key = rw x (ap keyOf e ∙ sym w); some = rw x (omega (arith, d .low)); room = rw x g }
 
@@ -269,23 +269,6 @@ pass-end table t before i h = rw (drop-of-length-le t h)
 pub pass-start : (table : Table) (t : List ℕ) → rowsFault (shapeOf table) none 0 (rows t) ≡ rowsFault (shapeOf table) (lastOf (take (0 - 0) (drop 0 t))) 0 (pieces 10 (drop 0 t))
 unfolding rows lastOf
 pass-start table t = refl
-
--- the answers of the small functions
-module _ {k : Table} (l : List ℕ) where
-  pub row-is : (t : Table) (r : Bool) → k ≡ t → r ≡ shapeOf t (pieces 9 l) → r ≡ shapeOf k (pieces 9 l)
-  row-is t r e f = f ∙ ap (λ (x : Table). shapeOf x (pieces 9 l)) (sym e)
-
-  pub key-is : (t : Table) (r : ℕ) → k ≡ t → r ≡ keyEnd t l → r ≡ keyEnd k l
-  key-is t r e f = f ∙ ap (λ (x : Table). keyEnd x l) (sym e)
-
-module _ (l : List ℕ) (a : ℕ) where
-  pub tab-none : length l ≤ a → a ≡ secondTab l a
-  unfolding secondTab
-  tab-none h = rw (le-leb (length l) a h)
-
-  pub tab-next : a < length l → endOf 9 l (a + 1) ≡ secondTab l a
-  unfolding secondTab
-  tab-next h = rw (lt-leb (length l) a h)
 
 pub rises-is : (a b : List ℕ) (r : Order) (o : Ordering) → orderOf r ≡ order a b → orderOf r ≡ o → isLess o ≡ below a b
 rises-is a b r o e f = ap isLess (sym f ∙ e) ∙ sym (below-order a b)

@@ -71,10 +71,6 @@ pub more-some : (b : ℕ) (s : List ℕ) (e : ℕ) → e < length s → noMore (
 unfolding noMore
 more-some b s e h = rw (others-at b s e (endOf b s (e + 1)) h refl)
 
-pub more-none : (b : ℕ) (s : List ℕ) (e : ℕ) → length s ≤ e → noMore (others b s e) ≡ true
-unfolding noMore
-more-none b s e h = rw (others-none b s e h)
-
 -- Pieces have no separator in them, and joined they are the text again.
 abbrev pub Free : ℕ → Tag → Type 0
 Free b t = All (λ (x : ℕ). eqb x b ≡ false) t

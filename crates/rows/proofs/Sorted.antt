@@ -48,7 +48,7 @@ capital-high b e = le-leb 9 b (omega (arith, (capital-in b e) .low))
 digit-high : (b : ℕ) → digit b ≡ true → high b ≡ true
 digit-high b e = le-leb 9 b (omega (arith, (digit-in b e) .low))
 
-every-append : (p : ℕ → Bool) (x y : Tag) → every p x ≡ true → every p y ≡ true → every p (x ++ y) ≡ true
+pub every-append : (p : ℕ → Bool) (x y : Tag) → every p x ≡ true → every p y ≡ true → every p (x ++ y) ≡ true
 unfolding every
 every-append p [] y e f = f
 every-append p (b ∷ x) y e f = let h = and-true (p b) (every p x) e in rw (h .0, every-append p x y (h .1) f)
@@ -147,7 +147,7 @@ key-end Likely l k = (0, refl)
 key-end Parents l k = (0, refl)
 
 row-parts : (table : Table) (l : List ℕ) (k : KeyAt table l) → l ≡ keyOf (pieces 9 l) ++ (9 ∷ drop (keyEnd table l + 1) l)
-row-parts table l k = let e = key-end table l k in row-split l (e .0) (keyEnd table l) (e .1) (k .room) ∙ ap (λ (x : List ℕ). x ++ (9 ∷ drop (keyEnd table l + 1) l)) (sym (k .key))
+row-parts table l k = let e = key-end table l k in row-split 9 l (e .0) (keyEnd table l) (e .1) (k .room) ∙ ap (λ (x : List ℕ). x ++ (9 ∷ drop (keyEnd table l + 1) l)) (sym (k .key))
 
 two-plain : (k v : Tag) → isThree k ≡ true → All (Free 9) (k ∷ v ∷ []) → (tabs (keyOf (k ∷ v ∷ [])) ≡ 0) × (every high (keyOf (k ∷ v ∷ [])) ≡ true)
 unfolding keyOf All

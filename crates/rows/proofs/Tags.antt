@@ -21,8 +21,8 @@ use Rattle.subtag.proofs.Bytes.{capital-in, small-in, digit-in, inside, under, 
 use Rattle.subtag.specs.Subtags.{subtagOf, firstByte}
 use Rattle.subtag.proofs.Shapes as shapes
 use Rattle.subtag.proofs.Shapes.{language-from, kind-from, digit-first, every-count, size-from, size-empty, size-one, size-two, size-three, size-four, size-several, size-long}
-use Rattle.rows.specs.declared.Bytes.{Bytes}
-use Rattle.rows.specs.declared.Bytes.the-variants.{Word}
+use Rattle.rows.specs.declared.subtags.Bytes.{Bytes}
+use Rattle.rows.specs.declared.subtags.Bytes.the-variants.{Word}
 use Rattle.rows.specs.Shapes.{allowed, isScript, isRegion}
 
 -- two tests that pass together are one
@@ -62,14 +62,14 @@ module _ (b : ℕ) where
   unfolding upperByte
   capital-back e = rw (capital-small e, lowered true e) (omega arith)
 
-  not-capital : small b ≡ true → capital b ≡ false
+  pub not-capital : small b ≡ true → capital b ≡ false
   unfolding capital
   not-capital e = let h = small-in b e in over 65 90 b (omega (arith, h .low)) (omega (arith, h .low))
 
   small-lower : small b ≡ true → lowerByte b ≡ b
   small-lower e = lowered false (not-capital e)
 
-  digit-low : digit b ≡ true → capital b ≡ false
+  pub digit-low : digit b ≡ true → capital b ≡ false
   unfolding capital
   digit-low e = let h = digit-in b e in under 65 90 b (omega (arith, h .high))
 

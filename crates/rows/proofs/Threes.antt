@@ -1,16 +1,13 @@
--- Language, perhaps script, perhaps region: by the pieces, and by the places where they end.
+-- Language, perhaps script, perhaps region: by the pieces.
 -- Assumes nothing.
 use mathlib.Core.Path.{_≡_, refl, sym, ap, ap₂, _∙_}
 use mathlib.Core.Bool.{Bool, true, false, cond, not, _&&_}
 use mathlib.Core.Logic.{_⊎_, inl, inr, ⊎-elim}
 use mathlib.Core.List.{List, [], _∷_, _++_, tail-eq-of-cons-eq}
-use Prim.Native.Nat.{ℕ, _+_, _-_, _≤_, _<_, zero-le}
+use Prim.Native.Nat.{ℕ, _+_, _-_}
 use native.Mathlib.Omega.{arith}
-use lib.Dec.{ltb, eqb}
-use lib.ListN.{length, take, drop, length-drop, drop-of-length-le}
-use lib.Seq.{take-all}
-use borrow.Author.Tests.{lt-ltb, le-ltb, ltb-true, ne-eqb, not-true}
-use Rattle.subtag.proofs.Walk.{le-or-lt}
+use lib.Dec.{eqb}
+use borrow.Author.Tests.{ne-eqb, not-true}
 use Rattle.standard.specs.Tag.{Tag, same}
 use Rattle.standard.specs.Grammar.{small, capital, digit, every, isLanguage, title, upper, Kind, aScript, aRegion}
 use Rattle.standard.specs.Identifier.{Three as Subtags, three}
@@ -18,13 +15,11 @@ use Rattle.standard.specs.Reading.{optional, joined}
 use Rattle.standard.specs.Table.{pieces, inCanonicalCase, findInCase, threeOf, parse, printThree, isThree}
 use Rattle.standard.proofs.Tags.{All, same-eq, same-refl}
 use Rattle.standard.proofs.Bytes.{bool-cases, clash, and-true}
-use Rattle.table.specs.Lines.{endOf}
-use Rattle.table.proofs.Lines.{ends, pieces-some}
-use Rattle.rows.specs.declared.Three.{Three}
-use Rattle.rows.specs.Shapes.{isScript, isRegion, between, others, scriptEnd, noMore, regionTail, ThreeAt}
+use Rattle.table.proofs.Lines.{pieces-some}
+use Rattle.rows.specs.Shapes.{isScript, isRegion, noMore, regionTail}
 use Rattle.subtag.proofs.Bytes.{small-in, capital-in, digit-in}
 use Rattle.rows.proofs.Tags.{both-ways, script-not-region, script-size, region-size, language-every, script-every, region-every}
-use Rattle.rows.proofs.Pieces.{Free, pieces-first, others-at, others-none, more-some, more-none, pieces-free, joined-pieces, pieces-joined}
+use Rattle.rows.proofs.Pieces.{Free, pieces-free, joined-pieces, pieces-joined}
 
 no : {P : Type 0} → false ≡ true → P
 no e = clash {b = true} refl (sym e)
@@ -176,139 +171,6 @@ module _ (s : List ℕ) (L : Tag) (ts : List Tag) (q : pieces 45 s ≡ L ∷ ts)
   pub three-pieces : isThree s ≡ (isLanguage L && tail ts)
   unfolding isThree
   three-pieces = ap₂ _&&_ (ap (λ (t : Subtags). isLanguage (t .language)) parse-pieces) same-tail
-
--- By places: l is where the language ends.
-pub script-bounds : (s : List ℕ) (l : ℕ) → l ≤ length s → (l ≤ scriptEnd s l) × (scriptEnd s l ≤ length s)
-unfolding scriptEnd
-script-bounds s l h = go (ltb l (length s)) (isScript (between s l (endOf 45 s (l + 1)))) refl
-  where
-    go : (b c : Bool) → ltb l (length s) ≡ b → (l ≤ cond b (cond c (endOf 45 s (l + 1)) l) l) × (cond b (cond c (endOf 45 s (l + 1)) l) l ≤ length s)
-    go true true e = let b = ends 45 s (l + 1) (endOf 45 s (l + 1)) refl (let g = ltb-true l (length s) e in omega arith) in (omega (arith, b .low), b .high)
-    go true false e = (omega arith, h)
-    go false c e = (omega arith, h)
-
-module _ (s : List ℕ) (l : ℕ) where
-  pub end-none : length s ≤ l → scriptEnd s l ≡ l
-  unfolding scriptEnd
-  end-none h = rw (le-ltb l (length s) h)
-
-  pub end-script : (e : ℕ) → l < length s → e ≡ endOf 45 s (l + 1) → isScript (between s l e) ≡ true → scriptEnd s l ≡ e
-  unfolding scriptEnd
-  end-script e h q c = rw (lt-ltb l (length s) h, ← q, c)
-
-  pub end-other : (e : ℕ) → l < length s → e ≡ endOf 45 s (l + 1) → isScript (between s l e) ≡ false → scriptEnd s l ≡ l
-  unfolding scriptEnd
-  end-other e h q c = rw (lt-ltb l (length s) h, ← q, c)
-
-  -- a region behind l is all that is left
-  region-at : regionTail (others 45 s l) ≡ true → regionOf (others 45 s l) ≡ drop (l + 1) s
-  unfolding findInCase noMore
-  region-at t =
-      ⊎-elim (λ h. let g : length s ≤ l + 1 = omega arith in rw (others-none 45 s l h, drop-of-length-le s g))
-      (λ h.
-      let f = endOf 45 s (l + 1) in
-      let o = others-at 45 s l f h refl in
-      let r = region-tail (between s l f) (others 45 s f) (sym (ap regionTail o) ∙ t) in
-      ap regionOf o ∙ region-alone (between s l f) (others 45 s f) (r .0) ∙ last f (r .1) h)
-      (le-or-lt (length s) l)
-    where
-      last : (f : ℕ) → others 45 s f ≡ [] → l < length s → between s l f ≡ drop (l + 1) s
-      last f e h = ⊎-elim (λ (g : length s ≤ f). take-all (f - (l + 1)) (drop (l + 1) s) (simp length-drop (omega arith))) (λ g. clash (ap noMore e) (more-some 45 s f g)) (le-or-lt (length s) f)
-
--- The test and the parts, where l is the language's end and e the script's.
-module _ (s : List ℕ) (l : ℕ) (q : l ≡ endOf 45 s 0) where
-  first : pieces 45 s ≡ take l s ∷ others 45 s l
-  first = pieces-first 45 s l q
-
-  tail-end : tail (others 45 s l) ≡ regionTail (others 45 s (scriptEnd s l))
-  unfolding tail regionTail
-  tail-end =
-      ⊎-elim (λ h. rw (end-none s l h, others-none 45 s l h))
-      (λ h.
-      let f = endOf 45 s (l + 1) in
-      let o = others-at 45 s l f h refl in
-      bool-cases (isScript (between s l f)) (λ c. rw (end-script s l f h refl c, o, c)) (λ c. rw (end-other s l f h refl c, o, c)))
-      (le-or-lt (length s) l)
-
-  pub three-is : isThree s ≡ (isLanguage (take l s) && regionTail (others 45 s (scriptEnd s l)))
-  three-is = three-pieces s (take l s) (others 45 s l) first ∙ ap (_&&_ (isLanguage (take l s))) tail-end
-
-  script-at : regionTail (others 45 s (scriptEnd s l)) ≡ true
-      → (scriptOf (others 45 s l) ≡ between s l (scriptEnd s l)) × (regionOf (others 45 s l) ≡ drop (scriptEnd s l + 1) s)
-  unfolding findInCase regionTail
-  script-at t =
-      ⊎-elim
-      (λ h.
-      let g : length s ≤ l + 1 = omega arith in
-      let z : l - (l + 1) ≡ 0 = omega arith in
-      rw (end-none s l h, others-none 45 s l h, drop-of-length-le s g, z) (refl, refl))
-      (λ h.
-      let f = endOf 45 s (l + 1) in
-      let o = others-at 45 s l f h refl in
-      bool-cases (isScript (between s l f))
-      (λ c.
-      let e = end-script s l f h refl c in
-      let u : regionTail (others 45 s f) ≡ true = sym (ap (λ (n : ℕ). regionTail (others 45 s n)) e) ∙ t in
-      rw (e, o) (script-alone (between s l f) (others 45 s f) c, region-off (between s l f) (others 45 s f) (script-not-region (between s l f) c) ∙ region-at s f u))
-      (λ c.
-      let e = end-other s l f h refl c in
-      let z : l - (l + 1) ≡ 0 = omega arith in
-      let u : regionTail (others 45 s l) ≡ true = sym (ap (λ (n : ℕ). regionTail (others 45 s n)) e) ∙ t in
-      let r = region-tail (between s l f) (others 45 s f) (sym (ap regionTail o) ∙ u) in
-      rw (e, z) (ap scriptOf o ∙ script-off (between s l f) (others 45 s f) c ∙ ap scriptOf (r .1), region-at s l u)))
-      (le-or-lt (length s) l)
-
-  pub three-parts : regionTail (others 45 s (scriptEnd s l)) ≡ true → parse s ≡ three (take l s) (between s l (scriptEnd s l)) (drop (scriptEnd s l + 1) s)
-  three-parts t = let h = script-at t in parse-pieces s (take l s) (others 45 s l) first ∙ ap₂ (three (take l s)) (h .0) (h .1)
-
--- What the code answers.
-module _ (s : List ℕ) (l : ℕ) (q : l ≡ endOf 45 s 0) where
-  abbrev nothing : Three
-  nothing = record { ok = false; language = 0; script = 0 }
-
-  pub no-language : isLanguage (take l s) ≡ false → ThreeAt s nothing
-  no-language e = record { is = sym (three-is s l q ∙ rw e); low = omega arith; high = omega arith; parts = no }
-
-  pub no-region : (e : ℕ) → e ≡ scriptEnd s l → isLanguage (take l s) ≡ true → regionTail (others 45 s e) ≡ false → ThreeAt s nothing
-  no-region e z f g =
-      let g′ : regionTail (others 45 s (scriptEnd s l)) ≡ false = rw (← z) g in
-      record { is = sym (three-is s l q ∙ rw (f, g′)); low = omega arith; high = omega arith; parts = no }
-
-  pub all-three : (e : ℕ) → e ≡ scriptEnd s l → isLanguage (take l s) ≡ true → regionTail (others 45 s e) ≡ true → ThreeAt s (record { ok = true; language = l; script = e })
-  all-three e z f g =
-      let g′ : regionTail (others 45 s (scriptEnd s l)) ≡ true = rw (← z) g in
-      let b = script-bounds s l ((ends 45 s 0 l q zero-le) .high) in
-      record {
-        is = sym (three-is s l q ∙ rw (f, g′));
-        low = rw z (b .0);
-        high = rw z (b .1);
-        parts = λ _. rw z (three-parts s l q g′);
-      }
-
--- Behind the place e.
-module _ (s : List ℕ) (e : ℕ) where
-  pub tail-past : length s ≤ e → true ≡ regionTail (others 45 s e)
-  unfolding regionTail
-  tail-past h = sym (ap regionTail (others-none 45 s e h))
-
-  module _ (f : ℕ) (h : e < length s) (q : f ≡ endOf 45 s (e + 1)) where
-    tail-at : regionTail (others 45 s e) ≡ (isRegion (between s e f) && noMore (others 45 s f))
-    unfolding regionTail
-    tail-at = ap regionTail (others-at 45 s e f h q)
-
-    pub tail-more : f < length s → false ≡ regionTail (others 45 s e)
-    tail-more g = sym (tail-at ∙ rw (more-some 45 s f g) (and-false (isRegion (between s e f))))
-      where
-        and-false : (b : Bool) → (b && false) ≡ false
-        and-false true = refl
-        and-false false = refl
-
-    pub tail-region : length s ≤ f → isRegion (between s e f) ≡ regionTail (others 45 s e)
-    tail-region g = sym (tail-at ∙ rw (more-none 45 s f g) (and-true′ (isRegion (between s e f))))
-      where
-        and-true′ : (b : Bool) → (b && true) ≡ b
-        and-true′ true = refl
-        and-true′ false = refl
 
 -- The three subtags of a text that is such.
 pub record ThreeOk (t : Subtags) : Type 0 where

@@ -2,38 +2,27 @@
 -- Assumes nothing.
 use mathlib.Core.Path.{_≡_}
 use mathlib.Core.Bool.{Bool, true, false, cond, not, _&&_}
-use mathlib.Core.List.{List, [], _∷_}
+use mathlib.Core.List.{List, [], _∷_, _++_}
 use Prim.Native.Nat.{ℕ, _+_, _<_}
 use lib.ListN.{length, take, drop}
 use Rattle.standard.specs.Tag.{Tag, same, present}
 use Rattle.standard.specs.Grammar.{isLanguage}
 use Rattle.standard.specs.Identifier.{und, zzzz, zz, complete, withoutUnknown, sameThree}
 use Rattle.standard.specs.Table.{pieces, parse, isThree, isUnd, isVariantTag, aliasShape, likelyShape, parentShape}
-use Rattle.rows.specs.declared.Fields.{Fields}
-use Rattle.rows.specs.declared.AliasKind.{AliasKind}
-use Rattle.rows.specs.declared.AliasKind.the-variants.{Language, Script, Region, Variant, Unknown}
+use Rattle.rows.specs.declared.aliases.Fields.{Fields}
+use Rattle.rows.specs.declared.pairs.Pair.{Pair}
+use Rattle.rows.specs.declared.pairs.Line.{Line}
+use Rattle.rows.specs.declared.aliases.AliasKind.{AliasKind}
+use Rattle.rows.specs.declared.aliases.AliasKind.the-variants.{Language, Script, Region, Variant, Unknown}
 use Rattle.rows.specs.declared.Table.{Table}
 use Rattle.rows.specs.declared.Table.the-variants.{Aliases, Likely, Parents}
 use Rattle.rows.specs.declared.Rows.{Rows}
 use Rattle.rows.specs.declared.Rows.the-variants.{Good, Shape, Order}
-use Rattle.rows.specs.Shapes.{isScript, isRegion}
+use Rattle.rows.specs.Shapes.{isScript, isRegion, between, ThreeAt}
 use Rattle.table.specs.Lines.{endOf}
 use Rattle.standard.specs.Reading.{Fault, fault}
 use mathlib.Core.Option.{Option, none}
 use lib.Dec.{leb}
-
--- exactly two
-unfoldable pub isTwo : List Tag → Bool
-isTwo [] = false
-isTwo (a ∷ []) = false
-isTwo (a ∷ b ∷ []) = true
-isTwo (a ∷ b ∷ c ∷ ts) = false
-
--- whether s has two fields, and where the tab between them is
-pub record FieldsAt (s : List ℕ) (r : Fields) : Type 0 where
-  pub is : r .ok ≡ isTwo (pieces 9 s)
-  pub room : r .ok ≡ true → r .tab < length s
-  pub fields : r .ok ≡ true → pieces 9 s ≡ take (r .tab) s ∷ drop (r .tab + 1) s ∷ []
 
 -- all three, none of them und, Zzzz or ZZ
 unfoldable pub isKnown : List ℕ → Bool
@@ -73,12 +62,6 @@ shapeBy Region key value = isRegion key && isRegion value
 shapeBy Variant key value = isVariantTag key && isVariantTag value
 shapeBy Unknown key value = false
 
-unfoldable pub fieldsBy : AliasKind → List Tag → Bool
-fieldsBy k [] = false
-fieldsBy k (a ∷ []) = false
-fieldsBy k (key ∷ value ∷ []) = shapeBy k key value
-fieldsBy k (a ∷ b ∷ c ∷ ts) = false
-
 -- the shape that a table's rows have
 unfoldable pub shapeOf : Table → List Tag → Bool
 shapeOf Aliases ts = aliasShape ts
@@ -93,6 +76,34 @@ unfoldable pub keyEnd : Table → List ℕ → ℕ
 keyEnd Aliases l = secondTab l (endOf 9 l 0)
 keyEnd Likely l = endOf 9 l 0
 keyEnd Parents l = endOf 9 l 0
+
+-- whether a line is an alias row, and where its key ends
+pub record AliasAt (l : List ℕ) (r : Fields) : Type 0 where
+  pub is : r .ok ≡ aliasShape (pieces 9 l)
+  pub key : r .ok ≡ true → r .tab ≡ keyEnd Aliases l
+
+-- two texts of language, perhaps script, perhaps region at the front of s, with a tab between them and 0A behind
+pub record PairIn (s : List ℕ) (r : Pair) : Type 0 where
+  pub low : r .tab < r .end
+  pub high : r .end < length s
+  pub key : isThree (take (r .tab) s) ≡ true
+  pub value : ThreeAt (between s (r .tab) (r .end)) (record { ok = true; language = r .language; script = r .script })
+  pub text : s ≡ take (r .tab) s ++ (9 ∷ (between s (r .tab) (r .end) ++ (10 ∷ drop (r .end + 1) s)))
+
+pub record PairAt (s : List ℕ) (r : Pair) : Type 0 where
+  pub yes : r .ok ≡ true → PairIn s r
+  pub no : r .ok ≡ false → (k v z : List ℕ) → s ≡ k ++ (9 ∷ (v ++ (10 ∷ z))) → isThree k ≡ true → isThree v ≡ true → ⊥
+
+-- a row at the front of s, up to its 0A
+pub record LineIn (table : Table) (s : List ℕ) (r : Line) : Type 0 where
+  pub end : r .end ≡ endOf 10 s 0
+  pub high : r .end < length s
+  pub shape : shapeOf table (pieces 9 (take (r .end) s)) ≡ true
+  pub key : r .key ≡ keyEnd table (take (r .end) s)
+
+pub record LineAt (table : Table) (s : List ℕ) (r : Line) : Type 0 where
+  pub yes : r .ok ≡ true → LineIn table s r
+  pub no : r .ok ≡ false → endOf 10 s 0 < length s → shapeOf table (pieces 9 (take (endOf 10 s 0) s)) ≡ true → ⊥
 
 -- the standard's fault that an answer stands for
 abbrev pub faultIs : Rows → Option Fault

@@ -4,19 +4,19 @@ use mathlib.Core.Path.{_≡_, refl, sym, ap, ap₂, _∙_}
 use mathlib.Core.Bool.{Bool, true, false, cond}
 use mathlib.Core.List.{List, [], _∷_, _++_}
 use mathlib.Core.Logic.{_⊎_, inl, inr, ⊎-elim}
-use Prim.Native.Nat.{ℕ, zero, suc, _+_, _-_, _≤_, _<_, zero-le}
+use Prim.Native.Nat.{ℕ, zero, suc, _+_, _-_, _%_, _≤_, _<_, zero-le}
 use native.Mathlib.Nat.{le-of-suc-le-suc, not-suc-le-zero}
 use native.Mathlib.Numerals.{add-one}
 use native.Mathlib.Omega.{arith}
 use lib.Dec.{eqb, ltb}
-use lib.ListN.{length, take, drop, getD, set, length-drop, length-set, drop-of-length-le}
+use lib.ListN.{length, take, drop, getD, set, replicate, length-drop, length-set, length-replicate, drop-of-length-le}
 use lib.Seq.{drop-cons, getD-set-same, getD-set-other, take-suc}
 use borrow.Author.Tests.{eq-eqb, ne-eqb, lt-ltb, le-ltb, eqb-true}
 use Rattle.standard.specs.Table.{Found as Located, located}
 use Rattle.subtag.proofs.Walk.{le-or-lt}
 use Rattle.table.specs.Lines.{endOf, starts, noRow, rowAt}
 use Rattle.table.specs.Search.{Opens, rowFrom}
-use Rattle.table.specs.Hints.{slotStep, slotFrom, slotOf, RowAt, OpensIs, Seen, Right, Leads, Hinted, hintOf, hintsPast, startPast, slotPast}
+use Rattle.table.specs.Hints.{slotStep, slotFrom, slotOf, placeOf, hintAt, Blank, RowAt, OpensIs, Seen, Right, Leads, Hinted, hintOf, hintsPast, startPast, slotPast}
 use Rattle.table.proofs.Lines.{end-ge, end-le, row-start, row-past, row-miss, row-hit, row-room}
 use Rattle.table.proofs.Searches.{Cmp, lt, eq, gt, cmp, clash, opens-after, opens-before, end-in, end-byte, end-opens}
 
@@ -263,22 +263,43 @@ pub record Filled (t hints : List ℕ) (start slot i : ℕ) : Type 0 where
   pub line : i ≤ endOf 10 t start
   pub mixed : slot ≡ slotFrom 0 (take (i - start) (drop start t))
   pub placed : (s : ℕ) → Placed (getD hints s 65535) start
-  pub rows : (key : List ℕ) (p : ℕ) → RowAt t key p → p + length key < i → Right (getD hints (slotOf key) 65535) p
+  pub rows : (key : List ℕ) (p : ℕ) → RowAt t key p → p + length key < i → Right (hintAt hints (slotOf key)) p
 
 -- hints that are all 0
-pub placed-blank : (hints : List ℕ) → ((s : ℕ) → getD hints s 0 ≡ 0) → (s : ℕ) → Placed (getD hints s 65535) 0
+zeros-at : (n s : ℕ) → _≡_ {A = ℕ} (getD (replicate n 0) s 0) 0
+zeros-at zero s = refl
+zeros-at (suc n) zero = refl
+zeros-at (suc n) (suc s) = zeros-at n s
+
+pub blank-of : (n : ℕ) → ((slot : ℕ) → slot < 16384 → placeOf n slot < n) → Blank (replicate n 0)
+blank-of n f = record { room = λ slot h. rw (length-replicate {0} {A = ℕ} n 0) (f slot h); zeros = zeros-at n }
+
+-- where a slot's hint is
+pub place-few : (n slot : ℕ) → n ≡ 1024 → slot % 1024 ≡ placeOf n slot
+unfolding placeOf
+place-few n slot e = rw (eq-eqb n 1024 e)
+
+pub place-many : (n slot : ℕ) → (n ≡ 1024 → ⊥) → slot ≡ placeOf n slot
+unfolding placeOf
+place-many n slot f = rw (ne-eqb n 1024 f)
+
+-- hints of the same length have room for every slot
+pub room-same : (hints₀ hints : List ℕ) (slot at : ℕ) → Blank hints₀ → length hints ≡ length hints₀ → slot < 16384 → at ≡ placeOf (length hints) slot → at < length hints
+room-same hints₀ hints slot at b e h q = rw (q, e) (b .room slot h)
+
+placed-blank : (hints : List ℕ) → ((s : ℕ) → getD hints s 0 ≡ 0) → (s : ℕ) → Placed (getD hints s 65535) 0
 placed-blank [] h s = record { alone = λ g. absurd (omega arith); shared = λ g. absurd (omega arith) }
 placed-blank (x ∷ hints) h zero = let a = h 0 in record { alone = λ g. omega arith; shared = λ g. omega arith }
 placed-blank (x ∷ hints) h (suc s) = placed-blank hints (λ j. h (suc j)) s
 
-pub fill-start : (t hints : List ℕ) → ((s : ℕ) → getD hints s 0 ≡ 0) → Filled t hints 0 0 0
+pub fill-start : (t hints : List ℕ) → Blank hints → Filled t hints 0 0 0
 unfolding slotFrom
-fill-start t hints z = record { opens = refl; low = zero-le; line = zero-le; mixed = refl; placed = placed-blank hints z; rows = λ key p r h. absurd (not-suc-le-zero h) }
+fill-start t hints b = record { opens = refl; low = zero-le; line = zero-le; mixed = refl; placed = placed-blank hints (b .zeros); rows = λ key p r h. absurd (not-suc-le-zero h) }
 
 pub fill-done : (t hints : List ℕ) (start slot i : ℕ) → Filled t hints start slot i → length t ≤ i → Hinted t hints
 fill-done t hints start slot i f h = record { leads = λ key. record { right = λ p r. f .rows key p r (let a = row-fits t key p r in let b = end-le 10 t p in omega arith) } }
 
-module _ (t hints : List ℕ) (start slot i : ℕ) (f : Filled t hints start slot i) (h : i < length t) (g : slot < length hints) where
+module _ (t hints : List ℕ) (start slot i : ℕ) (f : Filled t hints start slot i) (h : i < length t) (at : ℕ) (q : at ≡ placeOf (length hints) slot) (g : at < length hints) where
   -- a key that ends at i is what the line holds before i
   own-start : (key : List ℕ) (p : ℕ) → RowAt t key p → p + length key ≡ i → p ≡ start
   own-start key p r e = go (cmp p start)
@@ -296,42 +317,46 @@ module _ (t hints : List ℕ) (start slot i : ℕ) (f : Filled t hints start slo
       ap (slotFrom 0) (row-key t key p r ∙ ap₂ (λ (m : ℕ) (q : ℕ). take m (drop q t)) n s) ∙ sym (f .mixed)
 
   -- at another byte the hints stay
-  stay-rows : (getD t i 0 ≡ 9 → ⊥) → (key : List ℕ) (p : ℕ) → RowAt t key p → p + length key < i + 1 → Right (getD hints (slotOf key) 65535) p
+  stay-rows : (getD t i 0 ≡ 9 → ⊥) → (key : List ℕ) (p : ℕ) → RowAt t key p → p + length key < i + 1 → Right (hintAt hints (slotOf key)) p
   stay-rows b key p r k = go (cmp (p + length key) i)
     where
-      go : Cmp (p + length key) i → Right (getD hints (slotOf key) 65535) p
+      go : Cmp (p + length key) i → Right (hintAt hints (slotOf key)) p
       go (lt l) = f .rows key p r l
       go (eq l) = absurd (b (ap (λ (j : ℕ). getD t j 0) (sym l) ∙ row-tab t key p r))
       go (gt l) = absurd (omega arith)
 
   -- at a tab the slot's hint changes
   new : ℕ
-  new = hintOf (getD hints slot 0) start
+  new = hintOf (getD hints at 0) start
 
-  at-slot : (s : ℕ) → s ≡ slot → getD (set hints slot new) s 65535 ≡ hintOf (getD hints slot 65535) start
+  at-place : (s : ℕ) → s ≡ at → getD (set hints at new) s 65535 ≡ hintOf (getD hints at 65535) start
   unfolding new
-  at-slot s e = ap (λ (j : ℕ). getD (set hints slot new) j 65535) e ∙ getD-set-same hints slot new 65535 g ∙ ap (λ (o : ℕ). hintOf o start) (getD-in hints slot 0 65535 g)
+  at-place s e = ap (λ (j : ℕ). getD (set hints at new) j 65535) e ∙ getD-set-same hints at new 65535 g ∙ ap (λ (o : ℕ). hintOf o start) (getD-in hints at 0 65535 g)
 
-  slots : (P : ℕ → Type 0) (s : ℕ) → (s ≡ slot → P (hintOf (getD hints slot 65535) start)) → ((s ≡ slot → ⊥) → P (getD hints s 65535)) → P (getD (set hints slot new) s 65535)
-  slots P s same other = go (cmp s slot)
+  places : (P : ℕ → Type 0) (s : ℕ) → (s ≡ at → P (hintOf (getD hints at 65535) start)) → ((s ≡ at → ⊥) → P (getD hints s 65535)) → P (getD (set hints at new) s 65535)
+  places P s same other = go (cmp s at)
     where
-      away : (s ≡ slot → ⊥) → P (getD (set hints slot new) s 65535)
-      away d = rw (getD-set-other hints slot s new 65535 d) (other d)
+      away : (s ≡ at → ⊥) → P (getD (set hints at new) s 65535)
+      away d = rw (getD-set-other hints at s new 65535 d) (other d)
 
-      go : Cmp s slot → P (getD (set hints slot new) s 65535)
+      go : Cmp s at → P (getD (set hints at new) s 65535)
       go (lt k) = away (λ e. omega arith)
-      go (eq k) = rw (at-slot s k) (same k)
+      go (eq k) = rw (at-place s k) (same k)
       go (gt k) = away (λ e. omega arith)
 
-  tab-placed : (s : ℕ) → Placed (getD (set hints slot new) s 65535) start
-  tab-placed s = slots (λ (v : ℕ). Placed v start) s (λ e. hint-placed (getD hints slot 65535) start (f .placed slot)) (λ d. f .placed s)
+  tab-placed : (s : ℕ) → Placed (getD (set hints at new) s 65535) start
+  tab-placed s = places (λ (v : ℕ). Placed v start) s (λ e. hint-placed (getD hints at 65535) start (f .placed at)) (λ d. f .placed s)
 
-  tab-rows : (key : List ℕ) (p : ℕ) → RowAt t key p → p + length key < i + 1 → Right (getD (set hints slot new) (slotOf key) 65535) p
-  tab-rows key p r k = go (cmp (p + length key) i)
+  tab-rows : (key : List ℕ) (p : ℕ) → RowAt t key p → p + length key < i + 1 → Right (hintAt (set hints at new) (slotOf key)) p
+  unfolding hintAt
+  tab-rows key p r k = rw (length-set hints at new) (go (cmp (p + length key) i))
     where
-      go : Cmp (p + length key) i → Right (getD (set hints slot new) (slotOf key) 65535) p
-      go (lt l) = slots (λ (v : ℕ). Right v p) (slotOf key) (λ e. hint-before (getD hints slot 65535) start p (rw e at (f .rows key p r l))) (λ d. f .rows key p r l)
-      go (eq l) = slots (λ (v : ℕ). Right v p) (slotOf key) (λ e. rw (own-start key p r l) (hint-own (getD hints slot 65535) start (f .placed slot))) (λ d. absurd (d (own-slot key p r l)))
+      s : ℕ
+      s = placeOf (length hints) (slotOf key)
+
+      go : Cmp (p + length key) i → Right (getD (set hints at new) s 65535) p
+      go (lt l) = places (λ (v : ℕ). Right v p) s (λ e. hint-before (getD hints at 65535) start p (rw e at (f .rows key p r l))) (λ d. f .rows key p r l)
+      go (eq l) = places (λ (v : ℕ). Right v p) s (λ e. rw (own-start key p r l) (hint-own (getD hints at 65535) start (f .placed at))) (λ d. absurd (d (ap (placeOf (length hints)) (own-slot key p r l) ∙ sym q)))
       go (gt l) = absurd (omega arith)
 
   -- the slot, past a byte of the line
@@ -368,7 +393,7 @@ module _ (t hints : List ℕ) (start slot i : ℕ) (f : Filled t hints start slo
         rows = stay-rows (λ n. let y = sym e ∙ n in omega arith);
       }
 
-  step-tab : getD t i 0 ≡ 9 → Filled t (set hints slot (hintOf (getD hints slot 0) start)) start (slotStep slot (getD t i 0)) (i + 1)
+  step-tab : getD t i 0 ≡ 9 → Filled t (set hints at (hintOf (getD hints at 0) start)) start (slotStep slot (getD t i 0)) (i + 1)
   unfolding new
   step-tab e = record {
     opens = f .opens;
@@ -389,16 +414,16 @@ module _ (t hints : List ℕ) (start slot i : ℕ) (f : Filled t hints start slo
     rows = stay-rows n;
   }
 
-  fill-step : (b : ℕ) → b ≡ getD t i 0 → Filled t (hintsPast hints slot start b) (startPast start b (i + 1)) (slotPast slot b) (i + 1)
+  fill-step : (b : ℕ) → b ≡ getD t i 0 → Filled t (hintsPast hints at start b) (startPast start b (i + 1)) (slotPast slot b) (i + 1)
   unfolding hintsPast startPast slotPast
   fill-step b e = rw e (go (cmp (getD t i 0) 10) (cmp (getD t i 0) 9))
     where
       other : (getD t i 0 ≡ 10 → ⊥) → (getD t i 0 ≡ 9 → ⊥)
-          → Filled t (cond (eqb (getD t i 0) 9) (set hints slot (hintOf (getD hints slot 0) start)) hints) (cond (eqb (getD t i 0) 10) (i + 1) start) (cond (eqb (getD t i 0) 10) 0 (slotStep slot (getD t i 0))) (i + 1)
+          → Filled t (cond (eqb (getD t i 0) 9) (set hints at (hintOf (getD hints at 0) start)) hints) (cond (eqb (getD t i 0) 10) (i + 1) start) (cond (eqb (getD t i 0) 10) 0 (slotStep slot (getD t i 0))) (i + 1)
       other d n = rw (ne-eqb (getD t i 0) 9 n, ne-eqb (getD t i 0) 10 d) (step-other d n)
 
       go : Cmp (getD t i 0) 10 → Cmp (getD t i 0) 9
-          → Filled t (cond (eqb (getD t i 0) 9) (set hints slot (hintOf (getD hints slot 0) start)) hints) (cond (eqb (getD t i 0) 10) (i + 1) start) (cond (eqb (getD t i 0) 10) 0 (slotStep slot (getD t i 0))) (i + 1)
+          → Filled t (cond (eqb (getD t i 0) 9) (set hints at (hintOf (getD hints at 0) start)) hints) (cond (eqb (getD t i 0) 10) (i + 1) start) (cond (eqb (getD t i 0) 10) 0 (slotStep slot (getD t i 0))) (i + 1)
       go (eq k) m = rw (ne-eqb (getD t i 0) 9 (λ e. omega arith), eq-eqb (getD t i 0) 10 k) (step-line k)
       go (lt k) (eq m) = rw (eq-eqb (getD t i 0) 9 m, ne-eqb (getD t i 0) 10 (λ e. omega arith)) (step-tab m)
       go (lt k) (lt m) = other (λ e. omega arith) (λ e. omega arith)
@@ -407,16 +432,27 @@ module _ (t hints : List ℕ) (start slot i : ℕ) (f : Filled t hints start slo
       go (gt k) (lt m) = absurd (omega arith)
       go (gt k) (gt m) = other (λ e. omega arith) (λ e. omega arith)
 
-  pub fill-next : (b : ℕ) (hints₁ : List ℕ) (start₁ slot₁ : ℕ) → b ≡ getD t i 0 → hints₁ ≡ hintsPast hints slot start b → start₁ ≡ startPast start b (i + 1) → slot₁ ≡ slotPast slot b
+  pub fill-next : (b : ℕ) (hints₁ : List ℕ) (start₁ slot₁ : ℕ) → b ≡ getD t i 0 → hints₁ ≡ hintsPast hints at start b → start₁ ≡ startPast start b (i + 1) → slot₁ ≡ slotPast slot b
       → Filled t hints₁ start₁ slot₁ (i + 1)
   fill-next b hints₁ start₁ slot₁ e h₁ s₁ m₁ = rw (h₁, s₁, m₁) (fill-step b e)
 
-pub past-length : (hints : List ℕ) (slot p b : ℕ) → length (hintsPast hints slot p b) ≡ length hints
+  -- a byte that ends neither a key nor a line
+  pub fill-quick : (b slot₁ : ℕ) → b ≡ getD t i 0 → 10 < b → slot₁ ≡ slotStep slot b → Filled t hints start slot₁ (i + 1)
+  unfolding hintsPast startPast slotPast
+  fill-quick b slot₁ e h m =
+      let n = ne-eqb b 10 (λ q. omega arith) in
+      fill-next b hints start slot₁ e (rw (ne-eqb b 9 (λ q. omega arith))) (rw n) (rw n m)
+
+pub mark-tab : (hints : List ℕ) (at place p b r : ℕ) → b ≡ 9 → at ≡ place → r ≡ hintOf (getD hints at 0) p → set hints at r ≡ hintsPast hints place p b
 unfolding hintsPast
-past-length hints slot p b = go (eqb b 9)
+mark-tab hints at place p b r e q f = rw (eq-eqb b 9 e, ← q, f)
+
+pub past-length : (hints : List ℕ) (at p b : ℕ) → length (hintsPast hints at p b) ≡ length hints
+unfolding hintsPast
+past-length hints at p b = go (eqb b 9)
   where
-    go : (x : Bool) → length (cond x (set hints slot (hintOf (getD hints slot 0) p)) hints) ≡ length hints
-    go true = length-set hints slot (hintOf (getD hints slot 0) p)
+    go : (x : Bool) → length (cond x (set hints at (hintOf (getD hints at 0) p)) hints) ≡ length hints
+    go true = length-set hints at (hintOf (getD hints at 0) p)
     go false = refl
 
 -- the answers by cases
@@ -437,37 +473,27 @@ module _ (old p : ℕ) where
   unfolding hintOf
   hint-more h g = rw (le-ltb 32766 p h, ne-eqb old 0 (λ e. omega arith), le-ltb old 32768 g)
 
-module _ (hints : List ℕ) (slot : ℕ) where
-  pub getD-past : length hints ≤ slot → 65535 ≡ getD hints slot 65535
-  getD-past h = sym (go hints slot h)
-    where
-      go : (l : List ℕ) (i : ℕ) → length l ≤ i → getD l i 65535 ≡ 65535
-      go [] i h = refl
-      go (x ∷ l) zero h = absurd (not-suc-le-zero h)
-      go (x ∷ l) (suc i) h = go l i (le-of-suc-le-suc h)
+getD-past : (l : List ℕ) (i : ℕ) → length l ≤ i → 65535 ≡ getD l i 65535
+getD-past [] i h = refl
+getD-past (x ∷ l) zero h = absurd (not-suc-le-zero h)
+getD-past (x ∷ l) (suc i) h = getD-past l i (le-of-suc-le-suc h)
 
-  -- one more hint is 0
-  pub blank-next : ((j : ℕ) → j < slot → getD hints j 0 ≡ 0) → slot < length hints → (j : ℕ) → j < slot + 1 → getD (set hints slot 0) j 0 ≡ 0
-  blank-next z h j k = go (cmp j slot)
-    where
-      go : Cmp j slot → getD (set hints slot 0) j 0 ≡ 0
-      go (lt l) = getD-set-other hints slot j 0 0 (λ e. omega arith) ∙ z j l
-      go (eq l) = ap (λ (i : ℕ). getD (set hints slot 0) i 0) l ∙ getD-set-same hints slot 0 0 h
-      go (gt l) = absurd (omega arith)
+-- a slot's hint, by its place
+module _ (hints : List ℕ) (slot at : ℕ) (e : at ≡ placeOf (length hints) slot) where
+  pub hint-missing : length hints ≤ at → 65535 ≡ hintAt hints slot
+  unfolding hintAt
+  hint-missing h = rw (← e) (getD-past hints at h)
 
-  pub blank-all : ((j : ℕ) → j < slot → getD hints j 0 ≡ 0) → length hints ≤ slot → (j : ℕ) → getD hints j 0 ≡ 0
-  blank-all z h j = ⊎-elim (λ g. beyond hints j (omega arith)) (λ g. z j g) (le-or-lt slot j)
-    where
-      beyond : (l : List ℕ) (i : ℕ) → length l ≤ i → getD l i 0 ≡ 0
-      beyond [] i h = refl
-      beyond (x ∷ l) zero h = absurd (not-suc-le-zero h)
-      beyond (x ∷ l) (suc i) h = beyond l i (le-of-suc-le-suc h)
+  pub hint-there : at < length hints → getD hints at 0 ≡ hintAt hints slot
+  unfolding hintAt
+  hint-there h = rw (← e) (getD-in hints at 0 65535 h)
 
 -- a key's hint, by its slot
-pub leads-at : (t hints key : List ℕ) (s v : ℕ) → Hinted t hints → s ≡ slotFrom 0 key → v ≡ getD hints s 65535 → Leads t key v
+pub leads-at : (t hints key : List ℕ) (s v : ℕ) → Hinted t hints → s ≡ slotFrom 0 key → v ≡ hintAt hints s → Leads t key v
 unfolding slotOf
 leads-at t hints key s v h e f = rw (f, e) (h .leads key)
 
 -- Missing hints say nothing.
 pub hinted-empty : (t : List ℕ) → Hinted t []
+unfolding hintAt
 hinted-empty t = record { leads = λ key. record { right = λ p r. record { alone = λ h. absurd (omega arith); shared = λ h g. absurd (omega arith) } } }

@@ -90,6 +90,11 @@ pub lines-at : (t : List ℕ) (i : ℕ) → i < length t → lines (drop i t) �
 lines-at t i h = rw add-one (lines-at′ t i h)
 
 -- a line that is shorter than p does not begin with p
+pub starts-front : (p q : List ℕ) → starts p (p ++ q) ≡ true
+unfolding starts
+starts-front [] q = refl
+starts-front (x ∷ p) q = rw (eq-eqb x x refl) (starts-front p q)
+
 pub starts-short : (p l : List ℕ) → length l < length p → starts p l ≡ false
 unfolding starts
 starts-short [] l h = absurd (not-suc-le-zero h)

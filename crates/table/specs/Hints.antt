@@ -47,9 +47,22 @@ pub record Right (v p : ℕ) : Type 0 where
 pub record Leads (t key : List ℕ) (v : ℕ) : Type 0 where
   pub right : (p : ℕ) → RowAt t key p → Right v p
 
--- each key's hint is; hints that are missing say nothing
+-- a slot's place among n hints: small tables have 1,024, others one for each slot
+unfoldable pub placeOf : ℕ → ℕ → ℕ
+placeOf n slot = cond (eqb n 1024) (slot % 1024) slot
+
+-- a slot's hint; one that is missing says nothing
+unfoldable pub hintAt : List ℕ → ℕ → ℕ
+hintAt hints slot = getD hints (placeOf (length hints) slot) 65535
+
+-- each key's hint is
 pub record Hinted (t hints : List ℕ) : Type 0 where
-  pub leads : (key : List ℕ) → Leads t key (getD hints (slotOf key) 65535)
+  pub leads : (key : List ℕ) → Leads t key (hintAt hints (slotOf key))
+
+-- hints that can be filled: all are 0, and every slot has one
+pub record Blank (hints : List ℕ) : Type 0 where
+  pub room : (slot : ℕ) → slot < 16384 → placeOf (length hints) slot < length hints
+  pub zeros : (s : ℕ) → getD hints s 0 ≡ 0
 
 -- rows that ascend, and hints that lead to them
 pub record Indexed (t hints : List ℕ) : Type 0 where
@@ -60,9 +73,9 @@ pub record Indexed (t hints : List ℕ) : Type 0 where
 unfoldable pub hintOf : ℕ → ℕ → ℕ
 hintOf old p = cond (ltb 32766 p) 65535 (cond (eqb old 0) (p + 1) (cond (ltb old 32768) (old + 32767) old))
 
--- the hints, the start of the line and the slot so far, past one more byte
+-- the hints, with that of the line's slot at the place `at`, the start of the line and the slot so far, past one more byte
 unfoldable pub hintsPast : List ℕ → ℕ → ℕ → ℕ → List ℕ
-hintsPast hints slot p b = cond (eqb b 9) (set hints slot (hintOf (getD hints slot 0) p)) hints
+hintsPast hints at p b = cond (eqb b 9) (set hints at (hintOf (getD hints at 0) p)) hints
 
 unfoldable pub startPast : ℕ → ℕ → ℕ → ℕ
 startPast p b next = cond (eqb b 10) next p

@@ -5,12 +5,12 @@ use crate::end_of;
 use crate::find_sorted;
 use crate::starts_row;
 ghost use mathlib.Core.Path.{_≡_};
-ghost use Prim.Native.Nat.{ℕ, _+_, _≤_, _<_};
-ghost use lib.ListN.{length, getD};
+ghost use Prim.Native.Nat.{_+_, _≤_, _<_};
+ghost use lib.ListN.{length};
 ghost use Rattle.standard.specs.Table.{located};
 ghost use Rattle.table.specs.Lines.{foundIs, noRow, valueOf};
 ghost use Rattle.table.specs.Search.{Sorted};
-ghost use Rattle.table.specs.Hints.{slotStep, slotFrom, OpensIs, Seen, Leads, Hinted, Indexed, hintOf, hintsPast, startPast, slotPast};
+ghost use Rattle.table.specs.Hints.{slotStep, slotFrom, placeOf, hintAt, Blank, OpensIs, Seen, Leads, Hinted, Indexed, hintOf, hintsPast, startPast, slotPast};
 
 // The slot of the bytes before and one more.
 fn step(h: usize, b: u8) -> usize
@@ -50,13 +50,24 @@ fn hint_of(old: u16, place: usize) -> u16
     old
 }
 
-// Marks the slot of the bytes before a tab.
+// A slot's place among n hints.
+fn place_of(n: usize, slot: usize) -> usize
+    ensures { λ r. ⌜ r ≡ placeOf n slot ⌝ }
+{
+    if n == 1024 {
+        return slot % 1024;
+    }
+    slot
+}
+
+// Marks the hint of the bytes before a tab, which have the slot.
 fn mark(hints: &mut [u16], slot: usize, start: usize, b: u8)
-    requires { ⌜ slot < length (now hints) ⌝ }
-    ensures { λ _. ⌜ now (hints .exit) ≡ hintsPast (now (hints .entry)) slot start b ⌝ }
+    requires { ⌜ placeOf (length (now hints)) slot < length (now hints) ⌝ }
+    ensures { λ _. ⌜ now (hints .exit) ≡ hintsPast (now (hints .entry)) (placeOf (length (now (hints .entry))) slot) start b ⌝ }
 {
     if b == 9 {
-        hints[slot] = hint_of(hints[slot], start);
+        let at = place_of(hints.len(), slot);
+        hints[at] = hint_of(hints[at], start);
     }
 }
 
@@ -81,28 +92,35 @@ fn slot_past(slot: usize, b: u8) -> usize
     step(slot, b)
 }
 
-// Sets all hints to 0.
-fn clear(hints: &mut [u16])
-    ensures { λ _. ⌜ (length (now (hints .exit)) ≡ length (now (hints .entry))) × ((s : ℕ) → getD (now (hints .exit)) s 0 ≡ 0) ⌝ }
+// No hints yet, for a small table and for any other. Few are soon cleared, and more keys share a slot.
+pub fn few() -> [u16; 1024]
+    ensures { λ r. ⌜ Blank r ⌝ }
 {
-    let mut i = 0;
-    while i < hints.len() {
-        hints[i] = 0;
-        i += 1;
-    }
+    [0u16; 1024]
+}
+
+pub fn many() -> [u16; 16384]
+    ensures { λ r. ⌜ Blank r ⌝ }
+{
+    [0u16; 16384]
 }
 
 // Makes the hints of a table. A key may hold tabs, so every tab of a line ends a key.
 pub fn fill_hints(t: &[u8], hints: &mut [u16])
-    requires { ⌜ length (now hints) ≡ 16384 ⌝ }
-    ensures { λ _. ⌜ (length (now (hints .exit)) ≡ 16384) × Hinted (now (t .entry)) (now (hints .exit)) ⌝ }
+    requires { ⌜ Blank (now hints) ⌝ }
+    ensures { λ _. ⌜ Hinted (now (t .entry)) (now (hints .exit)) ⌝ }
 {
-    clear(hints);
     let mut start = 0;
     let mut slot = 0;
     let mut i = 0;
     while i < t.len() {
         let b = t[i];
+        // most bytes end neither a key nor a line
+        if 10 < b {
+            slot = step(slot, b);
+            i += 1;
+            continue;
+        }
         mark(hints, slot, start, b);
         slot = slot_past(slot, b);
         i += 1;
@@ -112,12 +130,13 @@ pub fn fill_hints(t: &[u8], hints: &mut [u16])
 
 // The slot's hint; one that is missing says nothing.
 pub fn hint(hints: &[u16], slot: usize) -> usize
-    ensures { λ r. ⌜ r ≡ getD (now (hints .entry)) slot 65535 ⌝ }
+    ensures { λ r. ⌜ r ≡ hintAt (now (hints .entry)) slot ⌝ }
 {
-    if hints.len() <= slot {
+    let at = place_of(hints.len(), slot);
+    if hints.len() <= at {
         return 65535;
     }
-    hints[slot] as usize
+    hints[at] as usize
 }
 
 fn nothing() -> Found
@@ -131,7 +150,7 @@ fn nothing() -> Found
 }
 
 // Does a line start at p?
-fn opens(t: &[u8], p: usize) -> bool
+pub fn opens(t: &[u8], p: usize) -> bool
     ensures { λ r. ⌜ OpensIs (now (t .entry)) p r ⌝ }
 {
     if t.len() <= p {

@@ -17,9 +17,9 @@ use Rattle.standard.proofs.Tags.{same-eq}
 use Rattle.standard.proofs.Bytes.{bool-cases, clash, and-true}
 use Rattle.table.specs.Lines.{endOf, valueIf}
 use Rattle.table.proofs.Lines.{ends, lookup-located}
-use Rattle.rows.specs.declared.Three.{Three}
-use Rattle.rows.specs.declared.AliasKind.{AliasKind}
-use Rattle.rows.specs.declared.AliasKind.the-variants.{Language, Script, Region, Variant, Unknown}
+use Rattle.rows.specs.declared.three.Three.{Three}
+use Rattle.rows.specs.declared.aliases.AliasKind.{AliasKind}
+use Rattle.rows.specs.declared.aliases.AliasKind.the-variants.{Language, Script, Region, Variant, Unknown}
 use Rattle.rows.specs.Shapes.{isScript, isRegion, between, others, ThreeAt}
 use Rattle.rows.specs.Rows.{languageName, scriptName, regionName, variantName, kindNamed, languageAlias, shapeBy}
 use Rattle.rows.proofs.Tags.{language-long, script-length, region-sizes, variant-long}

@@ -3,3 +3,4 @@ pub mod Frees
 pub mod Walks
 pub mod Clashes
 pub mod Ordered
+pub mod OwnRows

@@ -9,6 +9,7 @@ use native.Mathlib.Omega.{arith}
 use lib.ListN.{length}
 use borrow.Author.Tests.{le-leb, lt-leb}
 use Rattle.standard.specs.Reading.{Fault, fault}
+use Rattle.standard.proofs.Table.{firstTable-none}
 use Rattle.standard.specs.Table.{TableFault, rows, tablesOf, tooBig, rowsFault, clashFault, aliasShape, likelyShape, parentShape, aliasFree, likelyFree, parentFree, inTable, firstTable, check}
 use Rattle.standard.proofs.Bytes.{clash}
 use Rattle.table.specs.Search.{Sorted}
@@ -73,14 +74,6 @@ unfolding check sizesFault shapesFault clashesFault
 check-parts useL useP A L P = simp first-first
 
 -- What the shapes give: sorted rows, each of its shape.
-first-none : (a b : Option TableFault) → firstTable a b ≡ none → (a ≡ none) × (b ≡ none)
-unfolding firstTable
-first-none none b e = (refl, e)
-first-none (some f) b e = clash-some f e
-  where
-    clash-some : (g : TableFault) → some g ≡ none → (some g ≡ none) × (b ≡ none)
-    clash-some g e = let z : _≡_ {A = ℕ} 0 1 = cc in absurd (omega arith)
-
 in-table-none : (used : Bool) (n : ℕ) (o : Option Fault) → inTable used n o ≡ none → used ≡ true → o ≡ none
 unfolding inTable
 in-table-none false n o e f = clash f refl
@@ -90,8 +83,8 @@ in-table-none true n (some g) e f = let z : _≡_ {A = ℕ} 0 1 = cc in absurd (
 pub shaped : (useL useP : Bool) (A L P : List ℕ) → shapesFault useL useP A L P ≡ none → Shaped useL useP A L P
 unfolding shapesFault shapeOf
 shaped useL useP A L P e =
-    let f = first-none (inTable true 1 (rowsFault aliasShape none 0 (rows A))) _ e in
-    let g = first-none (inTable useL 2 (rowsFault likelyShape none 0 (rows L))) (inTable useP 3 (rowsFault parentShape none 0 (rows P))) (f .1) in
+    let f = firstTable-none (inTable true 1 (rowsFault aliasShape none 0 (rows A))) _ e in
+    let g = firstTable-none (inTable useL 2 (rowsFault likelyShape none 0 (rows L))) (inTable useP 3 (rowsFault parentShape none 0 (rows P))) (f .1) in
     record {
       aliases = in-table-none true 1 (rowsFault aliasShape none 0 (rows A)) (f .0) refl;
       likely = in-table-none useL 2 (rowsFault likelyShape none 0 (rows L)) (g .0);
@@ -127,8 +120,8 @@ pub record SortedTables (useL useP : Bool) (A L P : List ℕ) : Type 0 where
 
 pub check-shaped : (useL useP : Bool) (A L P : List ℕ) → check useL useP A L P ≡ none → Shaped useL useP A L P
 check-shaped useL useP A L P e =
-    let f = first-none (sizesFault useL useP A L P) (firstTable (shapesFault useL useP A L P) (clashesFault useL useP A L P)) (check-parts useL useP A L P ∙ e) in
-    let g = first-none (shapesFault useL useP A L P) (clashesFault useL useP A L P) (f .1) in
+    let f = firstTable-none (sizesFault useL useP A L P) (firstTable (shapesFault useL useP A L P) (clashesFault useL useP A L P)) (check-parts useL useP A L P ∙ e) in
+    let g = firstTable-none (shapesFault useL useP A L P) (clashesFault useL useP A L P) (f .1) in
     shaped useL useP A L P (g .0)
 
 pub check-sorted : (useL useP : Bool) (A L P : List ℕ) → check useL useP A L P ≡ none → SortedTables useL useP A L P

@@ -5,19 +5,19 @@ use mathlib.Core.Path.{_≡_, sym, ap, ap₂, _∙_}
 use mathlib.Core.List.{List, _++_}
 use Prim.Native.Nat.{ℕ, _+_, _≤_, _<_}
 use native.Mathlib.Omega.{arith}
-use lib.ListN.{length, take, getD, length-append}
+use lib.ListN.{length, take, length-append}
 use lib.Seq.{sets, length-sets}
 use Rattle.standard.specs.Tag.{Tag}
 use Rattle.standard.specs.Table.{Found as Located}
 use Rattle.subtag.proofs.Stores.{sets-append, written}
-use Rattle.table.specs.Hints.{slotFrom, slotOf, Leads, Hinted}
+use Rattle.table.specs.Hints.{slotFrom, slotOf, hintAt, Leads, Hinted}
 use Rattle.table.proofs.Hinting.{slot-append, leads-at, hint-none}
-use Rattle.rows.specs.declared.AliasKind.{AliasKind}
-use Rattle.rows.specs.declared.AliasKind.the-variants.{Language, Script, Region, Variant, Unknown}
+use Rattle.rows.specs.declared.aliases.AliasKind.{AliasKind}
+use Rattle.rows.specs.declared.aliases.AliasKind.the-variants.{Language, Script, Region, Variant, Unknown}
 use Rattle.verdict.specs.Keys.{kindKey, isKey}
 
 -- The hint of a key, whose slot goes on from that of the kind's name.
-module _ (A hints : List ℕ) (k : AliasKind) (tag : Tag) (d s v : ℕ) (h : Hinted A hints) (e : d ≡ slotOf (kindKey k)) (f : s ≡ slotFrom d tag) (g : v ≡ getD hints s 65535) where
+module _ (A hints : List ℕ) (k : AliasKind) (tag : Tag) (d s v : ℕ) (h : Hinted A hints) (e : d ≡ slotOf (kindKey k)) (f : s ≡ slotFrom d tag) (g : v ≡ hintAt hints s) where
   pub key-leads : Leads A (kindKey k ++ tag) v
   unfolding slotOf
   key-leads = leads-at A hints (kindKey k ++ tag) s v h (f ∙ ap (λ (x : ℕ). slotFrom x tag) e ∙ sym (slot-append 0 (kindKey k) tag)) g

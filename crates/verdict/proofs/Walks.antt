@@ -2,16 +2,15 @@
 -- Assumes nothing.
 use mathlib.Core.Path.{_≡_, refl, sym, ap, ap₂, _∙_}
 use mathlib.Core.Bool.{Bool, true, false, not, _&&_}
-use mathlib.Core.Logic.{_⊎_, inl, ⊎-elim}
-use mathlib.Core.List.{List, [], _∷_, _++_, append-nil, append-assoc, head-eq-of-cons-eq, tail-eq-of-cons-eq}
+use mathlib.Core.Logic.{inl}
+use mathlib.Core.List.{List, [], _∷_, _++_, append-nil, append-assoc}
 use mathlib.Core.Option.{Option, none, some, Option·none-ne-some}
 use Prim.Native.Nat.{ℕ, zero, suc, _+_, _-_, _≤_, _<_}
 use native.Mathlib.Omega.{arith}
 use lib.Dec.{eqb}
 use lib.ListN.{length, take, drop, length-append, length-take, length-drop}
-use lib.Seq.{take-at, take-all, take-take}
+use lib.Seq.{take-at, take-take}
 use borrow.Author.Tests.{eqb-true}
-use Rattle.subtag.proofs.Walk.{le-or-lt}
 use Rattle.standard.specs.Tag.{Tag, order, same, present, onto}
 use Rattle.standard.specs.Identifier.{Three as Subtags, three, und, Tables}
 use Rattle.standard.specs.Chain.{Line, line, shorter, parentOf, parent, isRoot, reaches}
@@ -21,13 +20,14 @@ use Rattle.standard.proofs.Tags.{All, same-eq, same-refl}
 use Rattle.standard.proofs.Table.{Pass}
 use Rattle.standard.proofs.Bytes.{bool-cases, clash, and-true}
 use Rattle.table.specs.declared.Found.{Found}
-use Rattle.table.specs.Lines.{endOf, foundIs, valueOf, valueIf}
+use Rattle.table.specs.Lines.{foundIs, valueOf, valueIf}
 use Rattle.table.proofs.Lines.{lookup-located, cut-value, cut-found}
-use Rattle.rows.specs.declared.Three.{Three}
+use Rattle.rows.specs.declared.three.Three.{Three}
 use Rattle.rows.specs.Shapes.{between, ThreeAt}
 use Rattle.rows.proofs.Tags.{both-ways}
-use Rattle.rows.proofs.Pieces.{Free, pieces-first, others-at, pieces-more, pieces-free}
-use Rattle.verdict.specs.declared.Parent.{Parent}
+use Rattle.rows.proofs.Texts.{one-piece}
+use Rattle.rows.proofs.Pieces.{Free, pieces-more, pieces-free}
+use Rattle.verdict.specs.declared.parents.Parent.{Parent}
 use Rattle.verdict.specs.Walk.{cut, ValueOk, ShorterAt, ParentAt, reachesFrom}
 use Rattle.rows.proofs.Threes.{ThreeOk, three-ok, print-is-three, parse-print, three-text}
 
@@ -182,14 +182,6 @@ row-shape test (l ∷ m ∷ ls) k v e f = go (after (k ++ (9 ∷ [])) l) refl (r
         let d : w ≡ v = cc in
         ap (λ (x : List ℕ). test (pieces 9 x)) (sym (a ∙ (append-assoc k (9 ∷ []) w ∙ ap (λ (x : List ℕ). k ++ (9 ∷ x)) d))) ∙ e .0
 
--- a single piece is all there is
-single : (b : ℕ) (v : List ℕ) (w : Tag) → pieces b v ≡ w ∷ [] → v ≡ w
-single b v w e =
-    let f = endOf b v 0 in
-    let q = sym (pieces-first b v f refl) ∙ e in
-    ⊎-elim (λ (h : length v ≤ f). sym (take-all f v h) ∙ head-eq-of-cons-eq q)
-    (λ h. let n = ap length (sym (others-at b v f (endOf b v (f + 1)) h refl) ∙ tail-eq-of-cons-eq q) in absurd (omega arith)) (le-or-lt (length v) f)
-
 value-ok : (x v : List ℕ) → Free 9 x → parentShape (pieces 9 (x ++ (9 ∷ v))) ≡ true → ValueOk v
 unfolding parentShape All
 value-ok x v f e = go (pieces 9 v) refl (rw (pieces-more 9 x v f) at e) (rw (pieces-more 9 x v f) at (pieces-free 9 (x ++ (9 ∷ v))))
@@ -197,7 +189,7 @@ value-ok x v f e = go (pieces 9 v) refl (rw (pieces-more 9 x v f) at e) (rw (pie
     go : (ts : List Tag) → pieces 9 v ≡ ts → parentShape (x ∷ ts) ≡ true → All (Free 9) (x ∷ pieces 9 v) → ValueOk v
     go [] q s a = no s
     go (w ∷ []) q s a =
-        let z = single 9 v w q in
+        let z = one-piece 9 v w q in
         let h = and-true (isThree x) (not (same x und) && isThree w) s in
         let i = and-true (not (same x und)) (isThree w) (h .1) in
         record { three = ap isThree z ∙ i .1; free = rw z ((rw q at (a .1)) .0) }

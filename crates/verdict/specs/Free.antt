@@ -10,8 +10,8 @@ use Rattle.standard.specs.Reading.{Fault, fault}
 use Rattle.rows.specs.declared.Table.{Table}
 use Rattle.rows.specs.declared.Table.the-variants.{Aliases, Likely, Parents}
 use Rattle.standard.specs.Table.{parse, isThree, aliasFree, likelyFree, parentFree}
-use Rattle.rows.specs.declared.AliasKind.{AliasKind}
-use Rattle.rows.specs.declared.AliasKind.the-variants.{Language, Script, Region, Variant, Unknown}
+use Rattle.rows.specs.declared.aliases.AliasKind.{AliasKind}
+use Rattle.rows.specs.declared.aliases.AliasKind.the-variants.{Language, Script, Region, Variant, Unknown}
 use Rattle.rows.specs.Rows.{kindNamed}
 use Rattle.verdict.specs.declared.Clash.{Clash}
 use Rattle.verdict.specs.declared.Clash.the-variants.{Free, At}

@@ -5,8 +5,8 @@ use mathlib.Core.List.{List, [], _∷_, _++_}
 use Prim.Native.Nat.{ℕ, _+_}
 use Rattle.standard.specs.Tag.{Tag}
 use Rattle.standard.specs.Table.{located, languageKey, scriptKey, regionKey, variantKey}
-use Rattle.rows.specs.declared.AliasKind.{AliasKind}
-use Rattle.rows.specs.declared.AliasKind.the-variants.{Language, Script, Region, Variant, Unknown}
+use Rattle.rows.specs.declared.aliases.AliasKind.{AliasKind}
+use Rattle.rows.specs.declared.aliases.AliasKind.the-variants.{Language, Script, Region, Variant, Unknown}
 
 -- the kind's name and a tab
 unfoldable pub kindKey : AliasKind → List ℕ

@@ -2,15 +2,16 @@
 -- Assumes nothing.
 use mathlib.Core.Path.{_≡_}
 use mathlib.Core.Bool.{Bool, true, false}
-use mathlib.Core.List.{List, []}
-use Prim.Native.Nat.{ℕ, _-_, _≤_}
+use mathlib.Core.List.{List, [], _∷_, _++_}
+use Prim.Native.Nat.{ℕ, _-_, _≤_, _<_}
 use lib.Dec.{eqb}
 use lib.ListN.{length, take, drop}
 use Rattle.standard.specs.Identifier.{three, und}
 use Rattle.standard.specs.Chain.{line, shorter, parent, reaches}
 use Rattle.standard.specs.Table.{parse, isThree, tablesOf}
 use Rattle.standard.proofs.Tags.{All}
-use Rattle.verdict.specs.declared.Parent.{Parent}
+use Rattle.table.specs.Lines.{endOf, starts}
+use Rattle.verdict.specs.declared.parents.Parent.{Parent}
 
 -- the text from at to end
 abbrev pub cut : List ℕ → ℕ → ℕ → List ℕ
@@ -20,6 +21,15 @@ cut p at end = take (end - at) (drop at p)
 pub record ValueOk (v : List ℕ) : Type 0 where
   pub three : isThree v ≡ true
   pub free : All (λ (b : ℕ). eqb b 9 ≡ false) v
+
+-- the row from i to the end of its line at e, whose key ends at the tab k
+pub record OwnRow (p : List ℕ) (i k e : ℕ) : Type 0 where
+  pub line : e ≡ endOf 10 p i
+  pub low : i ≤ k
+  pub tab : k < e
+  pub high : e ≤ length p
+  pub key : ValueOk (cut p i k)
+  pub begins : starts (cut p i k ++ (9 ∷ [])) (cut p i e) ≡ true
 
 -- what drops the last subtag
 pub record ShorterAt (p : List ℕ) (at end : ℕ) (r : Parent) : Type 0 where

@@ -1,244 +1,44 @@
-// The check of the three tables: 11, 12 and 13, and rows that clash (14). Aliases are asked thousands of times whether a
-// subtag is a key, and parents whether a text is; hints answer nearly all of that without a search.
+// The check of the three tables: 11, 12 and 13, and rows that clash (14).
+mod parents;
+mod replaced;
+
+use crate::parents::key_reaches_root;
+use crate::replaced::alias_free;
+use crate::replaced::two_free;
+use rows::Table;
+use table::hints::few;
+use table::hints::fill_hints;
+use table::hints::many;
 ghost use mathlib.Core.Path.{_≡_};
 ghost use mathlib.Core.Bool.{true, false};
-ghost use mathlib.Core.List.{[], _++_};
-ghost use Prim.Native.Nat.{_+_, _≤_, _<_};
+ghost use mathlib.Core.List.{[]};
+ghost use Prim.Native.Nat.{_≤_};
 ghost use lib.ListN.{length};
-ghost use lib.Seq.{sets};
-ghost use Rattle.standard.specs.Table.{pieces, rows, parse, isThree, aliasShape, parentShape, tooBig, rowsFault, clashFault, inTable, check as checkOf};
-ghost use Rattle.table.specs.Search.{Sorted};
-ghost use Rattle.table.specs.Hints.{slotOf, Leads, Hinted, Indexed};
-ghost use Rattle.rows.specs.Shapes.{between};
+ghost use Rattle.standard.specs.Table.{pieces, rows, parentShape, tooBig, rowsFault, clashFault, inTable, check as checkOf};
+ghost use Rattle.table.specs.Lines.{endOf};
+ghost use Rattle.table.specs.Hints.{Hinted, Indexed};
 ghost use Rattle.standard.proofs.Table.{Pass};
 ghost use mathlib.Core.Option.{none};
 ghost use Rattle.verdict.specs.Verdicts.{verdictIs, numberOf, sizesFault, shapesFault, clashesFault, Shaped};
-ghost use Rattle.verdict.specs.Walk.{cut, ValueOk, ShorterAt, ParentAt, reachesFrom};
-ghost use Rattle.verdict.specs.Free.{freeThree, ownTag, freeAlias, isThrees, secondOf, freeParent, freeRow, clashIs};
+ghost use Rattle.verdict.specs.Walk.{cut};
+ghost use Rattle.verdict.specs.Free.{isThrees, freeParent, freeRow, clashIs};
 ghost use Rattle.rows.specs.Rows.{shapeOf};
-ghost use Rattle.verdict.specs.Keys.{kindKey, isKey};
-use rows::AliasKind;
-use rows::Table;
-use table::hints::fill_hints;
-use table::hints::find_by;
-use table::hints::find_hinted;
-use table::hints::hint;
-use table::hints::slot_from;
 
-// The slot of the kind's name and a tab, from which the slots of its keys go on.
-fn seed(kind: AliasKind) -> usize
-    ensures { λ r. ⌜ (r ≡ slotOf (kindKey kind)) × (r < 16384) ⌝ }
-{
-    match kind {
-        AliasKind::Language => 12365,
-        AliasKind::Script => 10654,
-        AliasKind::Region => 11149,
-        AliasKind::Variant => 7454,
-        AliasKind::Unknown => 9,
-    }
-}
-
-// Writes the kind's name and a tab.
-fn put_kind(kind: AliasKind, out: &mut [u8]) -> usize
-    requires { ⌜ length (now out) ≡ 32 ⌝ }
-    ensures { λ r. ⌜ (r ≡ length (kindKey kind)) × (now (out .exit) ≡ sets (now (out .entry)) 0 (kindKey kind)) ⌝ }
-{
-    match kind {
-        AliasKind::Language => subtag::put(b"language\t", out, 0),
-        AliasKind::Script => subtag::put(b"script\t", out, 0),
-        AliasKind::Region => subtag::put(b"region\t", out, 0),
-        AliasKind::Variant => subtag::put(b"variant\t", out, 0),
-        AliasKind::Unknown => subtag::put(b"\t", out, 0),
-    }
-}
-
-// Is there an alias of the kind with this key, whose hint is v?
-fn search(a: &[u8], v: usize, kind: AliasKind, tag: &[u8]) -> bool
-    requires { ⌜ Sorted (now a) × (length (now tag) ≤ 16) × Leads (now a) (kindKey kind ++ now tag) v ⌝ }
-    ensures { λ r. ⌜ r ≡ isKey (now (a .entry)) kind (now (tag .entry)) ⌝ }
-{
-    let mut key = [0u8; 32];
-    let n = put_kind(kind, &mut key);
-    let m = subtag::put(tag, &mut key, n);
-    let f = find_by(a, v, &key[..m]);
-    f.found
-}
-
-// Is there an alias of the kind with this key? The hint 0 is a no, before any key is written.
-fn is_key(a: &[u8], hints: &[u16], kind: AliasKind, tag: &[u8]) -> bool
-    requires { ⌜ Indexed (now a) (now hints) × (length (now tag) ≤ 16) ⌝ }
-    ensures { λ r. ⌜ r ≡ isKey (now (a .entry)) kind (now (tag .entry)) ⌝ }
-{
-    let s = slot_from(seed(kind), tag);
-    let v = hint(hints, s);
-    if v == 0 {
-        return false;
-    }
-    search(a, v, kind, tag)
-}
-
-// What stands between the separator at a and the place b.
-fn part(s: &[u8], a: usize, b: usize) -> &[u8]
-    requires { ⌜ b ≤ length (now s) ⌝ }
-    ensures { λ r. ⌜ now r ≡ between (now (s .entry)) a b ⌝ }
-{
-    if b <= a {
-        return &s[..0];
-    }
-    let start = a + 1;
-    &s[start..b]
-}
-
-// Has a value no language, script or region that aliases replace?
-fn value_free(a: &[u8], hints: &[u16], value: &[u8]) -> bool
-    requires { ⌜ Indexed (now a) (now hints) × (isThree (now value) ≡ true) ⌝ }
-    ensures { λ r. ⌜ r ≡ freeThree (now (a .entry)) (parse (now (value .entry))) ⌝ }
-{
-    let t = rows::three_of(value);
-    let l = t.language;
-    let e = t.script;
-    if is_key(a, hints, AliasKind::Language, &value[..l]) {
-        return false;
-    }
-    if is_key(a, hints, AliasKind::Script, part(value, l, e)) {
-        return false;
-    }
-    !is_key(a, hints, AliasKind::Region, part(value, e, value.len()))
-}
-
-// The subtag of an alias value of the row's own kind.
-fn own(kind: AliasKind, value: &[u8]) -> &[u8]
-    ensures { λ r. ⌜ now r ≡ ownTag kind (now (value .entry)) ⌝ }
-{
-    match kind {
-        AliasKind::Language => {
-            let l = table::end_of(value, 45, 0);
-            &value[..l]
-        }
-        AliasKind::Script => value,
-        AliasKind::Region => value,
-        AliasKind::Variant => value,
-        AliasKind::Unknown => value,
-    }
-}
-
-// Is the own subtag of an alias row's value no key of its kind?
-fn alias_free(a: &[u8], hints: &[u16], line: &[u8]) -> bool
-    requires { ⌜ Indexed (now a) (now hints) × (aliasShape (pieces 9 (now line)) ≡ true) ⌝ }
-    ensures { λ r. ⌜ r ≡ freeAlias (now (a .entry)) (pieces 9 (now (line .entry))) ⌝ }
-{
-    let x = table::end_of(line, 9, 0);
-    let start = x + 1;
-    let y = table::end_of(line, 9, start);
-    let from = y + 1;
-    let kind = rows::kind_named(&line[..x]);
-    !is_key(a, hints, kind, own(kind, &line[from..]))
-}
-
-// A parent: `und`, or the text of the table from at to end.
-pub struct Parent {
-    pub root: bool,
-    pub at: usize,
-    pub end: usize,
-}
-
-// The text without its last subtag; a language alone has parent `und`.
-fn shorter(p: &[u8], at: usize, end: usize) -> Parent
-    requires { ⌜ (at ≤ end) × (end ≤ length (now p)) × ValueOk (cut (now p) at end) ⌝ }
-    ensures { λ r. ⌜ ShorterAt (now (p .entry)) at end r ⌝ }
-{
-    let t = rows::three_of(&p[at..end]);
-    let l = t.language;
-    let e = t.script;
-    let n = end - at;
-    if e + 1 < n {
-        return Parent {
-            root: false,
-            at,
-            end: at + e,
-        };
-    }
-    if l + 1 < e {
-        return Parent {
-            root: false,
-            at,
-            end: at + l,
-        };
-    }
-    Parent {
-        root: true,
-        at,
-        end,
-    }
-}
-
-// The parent of the text: the table's value if there is a row.
-fn parent_at(p: &[u8], own: &[u16], at: usize, end: usize) -> Parent
-    requires { ⌜ Indexed (now p) (now own) × Pass parentShape (rows (now p)) × (at ≤ end) × (end ≤ length (now p)) × ValueOk (cut (now p) at end) ⌝ }
-    ensures { λ r. ⌜ ParentAt (now (p .entry)) at end r ⌝ }
-{
-    let f = find_hinted(p, own, &p[at..end]);
-    if f.found {
-        let start = f.start;
-        return Parent {
-            root: false,
-            at: start,
-            end: start + f.len,
-        };
-    }
-    shorter(p, at, end)
-}
-
-// Is the walk of parents from the text at `und` within 8 steps?
-fn reaches_root(p: &[u8], own: &[u16], from: usize, to: usize) -> bool
-    requires { ⌜ Indexed (now p) (now own) × Pass parentShape (rows (now p)) × (from ≤ to) × (to ≤ length (now p)) × ValueOk (cut (now p) from to) ⌝ }
-    ensures { λ r. ⌜ r ≡ reachesFrom (now (p .entry)) 8 (cut (now (p .entry)) from to) ⌝ }
-{
-    let mut at = from;
-    let mut end = to;
-    let mut left: usize = 8;
-    loop {
-        if subtag::same(&p[at..end], b"und") {
-            return true;
-        }
-        if left == 0 {
-            return false;
-        }
-        let next = parent_at(p, own, at, end);
-        if next.root {
-            return true;
-        }
-        at = next.at;
-        end = next.end;
-        left -= 1;
-    }
-}
-
-// Has the value of a likely or parent row nothing that aliases replace?
-fn two_free(a: &[u8], hints: &[u16], line: &[u8]) -> bool
-    requires { ⌜ Indexed (now a) (now hints) × (isThrees (pieces 9 (now line)) ≡ true) ⌝ }
-    ensures { λ r. ⌜ r ≡ freeThree (now (a .entry)) (parse (secondOf (pieces 9 (now (line .entry))))) ⌝ }
-{
-    let x = table::end_of(line, 9, 0);
-    let start = x + 1;
-    value_free(a, hints, &line[start..])
-}
-
-// The same of a parent row, from i to e in the table, whose walk has to end, too.
+// Has the value of the parent row from i to e nothing that aliases replace, and does the walk from its key end?
 fn parent_free(a: &[u8], hints: &[u16], p: &[u8], own: &[u16], i: usize, e: usize) -> bool
-    requires { ⌜ Indexed (now a) (now hints) × Indexed (now p) (now own) × Pass parentShape (rows (now p)) × (i ≤ e) × (e ≤ length (now p)) × (isThrees (pieces 9 (cut (now p) i e)) ≡ true) ⌝ }
+    requires { ⌜ Indexed (now a) (now hints) × Indexed (now p) (now own) × Pass parentShape (rows (now p)) × (i ≤ e) × (e ≤ length (now p)) × (isThrees (pieces 9 (cut (now p) i e)) ≡ true) × (e ≡ endOf 10 (now p) i) ⌝ }
     ensures { λ r. ⌜ r ≡ freeParent (now (a .entry)) (now (p .entry)) (pieces 9 (cut (now (p .entry)) i e)) ⌝ }
 {
     if !two_free(a, hints, &p[i..e]) {
         return false;
     }
     let x = table::end_of(&p[i..e], 9, 0);
-    reaches_root(p, own, i, i + x)
+    key_reaches_root(p, own, i, i + x, e)
 }
 
 // Does the row from i to e of the table clash with none?
 fn free(a: &[u8], hints: &[u16], t: &[u8], own: &[u16], i: usize, e: usize, table: Table) -> bool
-    requires { ⌜ Indexed (now a) (now hints) × Indexed (now t) (now own) × Pass (shapeOf table) (rows (now t)) × (i ≤ e) × (e ≤ length (now t)) × (shapeOf table (pieces 9 (cut (now t) i e)) ≡ true) ⌝ }
+    requires { ⌜ Indexed (now a) (now hints) × Indexed (now t) (now own) × Pass (shapeOf table) (rows (now t)) × (i ≤ e) × (e ≤ length (now t)) × (shapeOf table (pieces 9 (cut (now t) i e)) ≡ true) × (e ≡ endOf 10 (now t) i) ⌝ }
     ensures { λ r. ⌜ r ≡ freeRow table (now (a .entry)) (now (t .entry)) (pieces 9 (cut (now (t .entry)) i e)) ⌝ }
 {
     match table {
@@ -365,7 +165,12 @@ fn check_walks(a: &[u8], hints: &[u16], p: &[u8], used: bool) -> Verdict
     if !used {
         return Verdict::Good;
     }
-    let mut own = [0u16; 16384];
+    if p.len() <= 2048 {
+        let mut own = few();
+        fill_hints(p, &mut own);
+        return check_free(a, hints, p, &own, Table::Parents, true);
+    }
+    let mut own = many();
     fill_hints(p, &mut own);
     check_free(a, hints, p, &own, Table::Parents, true)
 }
@@ -391,7 +196,12 @@ fn check_clashes(a: &[u8], l: &[u8], p: &[u8], use_l: bool, use_p: bool) -> Verd
     requires { ⌜ Shaped use_l use_p (now a) (now l) (now p) ⌝ }
     ensures { λ r. ⌜ verdictIs r ≡ clashesFault use_l use_p (now (a .entry)) (now (l .entry)) (now (p .entry)) ⌝ }
 {
-    let mut hints = [0u16; 16384];
+    if a.len() <= 2048 {
+        let mut hints = few();
+        fill_hints(a, &mut hints);
+        return check_hinted(a, &hints, l, p, use_l, use_p);
+    }
+    let mut hints = many();
     fill_hints(a, &mut hints);
     check_hinted(a, &hints, l, p, use_l, use_p)
 }

@@ -64,10 +64,14 @@ fn compare_tables(rounds: usize) -> Tally {
         }
         let theirs = second::check(&a, &l, &p);
         *tally.numbers.entry(theirs.number).or_default() += 1;
+        let passed = theirs.number == 0;
         tally.note("check", probe::check(&a, &l, &p), theirs, &[&a, &l, &p]);
         let t = [&a, &l, &p][round % 3];
         let k = key(&mut rng, t);
         tally.note("lookup", probe::lookup(t, &k), second::lookup(t, &k), &[t, &k]);
+        if passed {
+            tally.note("lookup by hints", probe::hinted(t, &k), second::lookup(t, &k), &[t, &k]);
+        }
     }
     let odd = odd_tables(&mut rng);
     let (a, l, p) = gen::good_tables(&mut rng);

@@ -4,13 +4,22 @@ use second::Answer;
 
 extern "C" {
     fn probe_lookup(t: *const u8, t_len: usize, key: *const u8, key_len: usize) -> u64;
+    fn probe_hinted(t: *const u8, t_len: usize, key: *const u8, key_len: usize) -> u64;
     fn probe_check(a: *const u8, a_len: usize, l: *const u8, l_len: usize, p: *const u8, p_len: usize) -> u64;
 }
 
 /// Found, start, length.
-pub fn lookup(t: &[u8], key: &[u8]) -> (bool, usize, usize) {
-    let r = unsafe { probe_lookup(t.as_ptr(), t.len(), key.as_ptr(), key.len()) };
+fn found(r: u64) -> (bool, usize, usize) {
     (r & 1 == 1, (r >> 1 & 0x7FFF_FFFF) as usize, (r >> 32) as usize)
+}
+
+pub fn lookup(t: &[u8], key: &[u8]) -> (bool, usize, usize) {
+    found(unsafe { probe_lookup(t.as_ptr(), t.len(), key.as_ptr(), key.len()) })
+}
+
+/// The same by hints; right of tables whose rows ascend.
+pub fn hinted(t: &[u8], key: &[u8]) -> (bool, usize, usize) {
+    found(unsafe { probe_hinted(t.as_ptr(), t.len(), key.as_ptr(), key.len()) })
 }
 
 pub fn check(a: &[u8], l: &[u8], p: &[u8]) -> Answer {

@@ -1,7 +1,6 @@
--- `rows::row` meets its contract, table by table. Assumes nothing.
-use Rattle.rows.specs.Rows.{shapeOf}
-use Rattle.rows.proofs.Passes.{row-is}
+-- `rows::row` meets its contract. Assumes nothing.
 use borrow.Author.Needs.{needs}
+use Rattle.rows.proofs.Texts.{line-as}
 use Rattle.rows.proofs.row.Statement.{statement}
 use Rattle.rows.proofs.row.Tie as tie
 
@@ -24,16 +23,13 @@ parent-row-requires : tie.Need-parent-row-requires
 parent-row-requires c κs = search needs
 
 returns : tie.Need-returns
-unfolding shapeOf
-returns c = row-is _ _ _ (c .before .enum-told .given .1) (c .alias-row .ensures)
+returns c = line-as _ _ _ (c .before .enum-told .given .1) (c .alias-row .ensures)
 
 returns-2 : tie.Need-returns-2
-unfolding shapeOf
-returns-2 c = row-is _ _ _ (c .before .enum-told2 .given .1) (c .likely-row .ensures)
+returns-2 c = line-as _ _ _ (c .before .enum-told2 .given .1) (c .likely-row .ensures)
 
 returns-3 : tie.Need-returns-3
-unfolding shapeOf
-returns-3 c = row-is _ _ _ (c .before .enum-told3 .given .1) (c .parent-row .ensures)
+returns-3 c = line-as _ _ _ (c .before .enum-told3 .given .1) (c .parent-row .ensures)
 
 pub row-spec : {M : Type 1} → statement M
 row-spec =

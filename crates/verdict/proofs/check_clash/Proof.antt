@@ -36,7 +36,7 @@ free-requires c κs =
     let p = c .before .before .before .before .before .before .before .pre in
     let l = c .before .before .loop .inv in
     let b = bounds c in
-    (p .0, p .1, p .2, b .low, b .high, pass-row _ _ _ _ (c .end-of .ensures) (c .before .loop-test .taken) (l .0) .0)
+    (p .0, p .1, p .2, b .low, b .high, pass-row _ _ _ _ (c .end-of .ensures) (c .before .loop-test .taken) (l .0) .0, c .end-of .ensures)
 
 returns : tie.Need-returns Inv-loop μ-loop
 returns c =

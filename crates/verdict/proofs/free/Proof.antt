@@ -52,7 +52,7 @@ parent-free-requires : tie.Need-parent-free-requires
 unfolding shapeOf
 parent-free-requires c κs =
     let p = c .before .before .before .before .before .before .pre in
-    (p .0, p .1, pass-parents _ (c .enum-told3 .given .1) (p .2), p .3, p .4, parent-threes _ (shape-is Parents _ (c .enum-told3 .given .1) (p .5)))
+    (p .0, p .1, pass-parents _ (c .enum-told3 .given .1) (p .2), p .3, p .4, parent-threes _ (shape-is Parents _ (c .enum-told3 .given .1) (p .5)), p .6)
 
 returns : tie.Need-returns
 unfolding freeRow

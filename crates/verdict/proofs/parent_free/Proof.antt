@@ -5,6 +5,7 @@ use mathlib.Core.Path.{sym, ap, _∙_}
 use Prim.Native.Nat.{_-_, _≤_}
 use Rattle.verdict.specs.Walk.{cut, reachesFrom}
 use Rattle.verdict.proofs.Clashes.{TwoLine, two-line, parent-value, parent-walk, key-cut, cut-size}
+use Rattle.verdict.proofs.OwnRows.{own-row}
 use borrow.Author.Needs.{needs}
 use Rattle.verdict.proofs.parent_free.Statement.{statement}
 use Rattle.verdict.proofs.parent_free.Tie as tie
@@ -47,14 +48,14 @@ key c =
     let h = fields c .room in
     omega arith
 
-add-reaches-root : tie.Need-add-reaches-root
-add-reaches-root c = omega (arith, key c)
+add-key-reaches-root : tie.Need-add-key-reaches-root
+add-key-reaches-root c = omega (arith, key c)
 
-reaches-root-requires : tie.Need-reaches-root-requires
-reaches-root-requires c κs =
+key-reaches-root-requires : tie.Need-key-reaches-root-requires
+key-reaches-root-requires c κs =
     let s = c .before .before .before .before .before .before .before .before in
     let a = s .before .args in
-    (s .before .pre .1, s .before .pre .2, omega arith, omega (arith, key c), rw (key-cut (a .p .now) (a .i) (a .e) (c .end-of .result) (key c)) (fields c .key))
+    (s .before .pre .1, s .before .pre .2, own-row (a .p .now) (a .i) (a .e) (c .end-of .result) (s .before .pre .6) (s .before .pre .3) (s .before .pre .4) (c .end-of .ensures) (fields c))
 
 returns-2 : tie.Need-returns-2
 returns-2 c =
@@ -62,7 +63,7 @@ returns-2 c =
     let i = e .before .before in
     let s = i .before .before .before .before .before .before in
     let a = s .before .args in
-    parent-walk _ _ _ (c .reaches-root .result) (sym (i .before .two-free .ensures) ∙ not-false _ (i .if1 .left)) (c .reaches-root .ensures ∙ ap (reachesFrom (a .p .now) 8) (key-cut (a .p .now) (a .i) (a .e) (e .end-of .result) (key e) ∙ sym (fields e .first)))
+    parent-walk _ _ _ (c .key-reaches-root .result) (sym (i .before .two-free .ensures) ∙ not-false _ (i .if1 .left)) (c .key-reaches-root .ensures ∙ ap (reachesFrom (a .p .now) 8) (key-cut (a .p .now) (a .i) (a .e) (e .end-of .result) (key e) ∙ sym (fields e .first)))
 
 pub parent-free-spec : {M : Type 1} → statement M
 parent-free-spec =
@@ -77,6 +78,6 @@ parent-free-spec =
     part-end-of-start
     part-end-of-end
     end-of-requires
-    add-reaches-root
-    reaches-root-requires
+    add-key-reaches-root
+    key-reaches-root-requires
     returns-2)

@@ -24,7 +24,7 @@ returns : tie.Need-returns
 unfolding reportCode reportIs
 returns c =
     let k = c .before .read in
-    ap (λ (n : ℕ). n + k .result .place % 65536 * 65536) (c .wide .ensures .0) ∙ ap reportCode (k .ensures)
+    ap (λ (n : ℕ). n + k .result .place % 65536 * 65536) (c .wide .ensures .0) ∙ ap reportCode (k .ensures .0)
 
 pub read-once-spec : {M : Type 1} → statement M
 read-once-spec = tie.close (tie.spec read-requires wide-requires mul-result add-result returns)

@@ -6,7 +6,6 @@ use Rattle.probe.proofs.Repeated.{check-0, check-1, check-2, check-3, o
 use borrow.Author.Needs.{needs}
 use Rattle.probe.proofs.repeats.once.Statement.{statement}
 use Rattle.probe.proofs.repeats.once.Tie as tie
-use Rattle.parents.proofs.whole.answer.Reads as whole-answer-reads′
 
 canonicalise-tested-requires : tie.Need-canonicalise-tested-requires
 canonicalise-tested-requires c κs =

@@ -26,8 +26,8 @@ returns c =
     let a = c .before .before .before .before .before .before .before .before .before .args in
     refused-for (a .operation) (a .aliases .now) (a .other .now) (a .id .now) _ (k .result) (c .before .refused-table .result) (c .pack .result) (c .before .before .enum-told2 .given .1) (c .pack .ensures) (c .before .refused-table .ensures) (k .ensures)
 
-no-hints-requires : tie.Need-no-hints-requires
-no-hints-requires c κs = search needs
+many-requires : tie.Need-many-requires
+many-requires c κs = search needs
 
 slice-aggregate-fill-hints : tie.Need-slice-aggregate-fill-hints
 slice-aggregate-fill-hints c = search needs
@@ -35,8 +35,8 @@ slice-aggregate-fill-hints c = search needs
 fill-hints-requires : tie.Need-fill-hints-requires
 fill-hints-requires c κs = search needs
 
-no-hints-requires-2 : tie.Need-no-hints-requires-2
-no-hints-requires-2 c κs = search needs
+many-requires-2 : tie.Need-many-requires-2
+many-requires-2 c κs = search needs
 
 slice-aggregate-fill-hints-2 : tie.Need-slice-aggregate-fill-hints-2
 slice-aggregate-fill-hints-2 c = search needs
@@ -53,7 +53,7 @@ slice-aggregate-repeated-2 c = search needs
 repeated-requires : tie.Need-repeated-requires
 repeated-requires c κs =
     let k = c .before .before .before .before .before .before .before .before .before .before .before .before .before .check-for in
-    (table-good (k .result) _ (k .ensures) (c .before .before .before .before .before .before .before .before .before .before .before .enum-told .given .1), c .before .before .before .before .before .before .before .before .fill-hints .ensures .1, c .before .before .before .before .fill-hints2 .ensures .1)
+    (table-good (k .result) _ (k .ensures) (c .before .before .before .before .before .before .before .before .before .before .before .enum-told .given .1), c .before .before .before .before .before .before .before .before .fill-hints .ensures, c .before .before .before .before .fill-hints2 .ensures)
 
 same-length : tie.Need-same-length
 same-length c = search needs
@@ -71,10 +71,10 @@ probe-repeat-hinted-spec =
     refused-table-requires
     pack-requires
     returns
-    no-hints-requires
+    many-requires
     slice-aggregate-fill-hints
     fill-hints-requires
-    no-hints-requires-2
+    many-requires-2
     slice-aggregate-fill-hints-2
     fill-hints-requires-2
     slice-aggregate-repeated

@@ -1,11 +1,13 @@
 -- `table::hints::mark` meets its contract. Assumes nothing.
-use mathlib.Core.Path.{ap}
-use lib.ListN.{set}
-use borrow.Author.Tests.{eq-eqb, ne-eqb}
+use borrow.Author.Tests.{ne-eqb}
 use Rattle.table.specs.Hints.{hintsPast}
+use Rattle.table.proofs.Hinting.{mark-tab}
 use borrow.Author.Needs.{needs}
 use Rattle.table.proofs.hints.mark.Statement.{statement}
 use Rattle.table.proofs.hints.mark.Tie as tie
+
+place-of-requires : tie.Need-place-of-requires
+place-of-requires c κs = search needs
 
 mul-hint-of : tie.Need-mul-hint-of
 mul-hint-of c = search needs
@@ -26,8 +28,7 @@ same-length : tie.Need-same-length
 same-length c = search needs
 
 returns : tie.Need-returns
-unfolding hintsPast
-returns c = let a = c .before .before .before .before .args in rw (eq-eqb _ _ (c .before .before .if1 .taken)) (ap (set (a .hints .now) (a .slot)) (c .hint-of .ensures))
+returns c = let p = c .before .before in mark-tab _ _ _ _ _ _ (p .before .if1 .taken) (p .place-of .ensures) (c .hint-of .ensures)
 
 returns-2 : tie.Need-returns-2
 unfolding hintsPast
@@ -37,6 +38,7 @@ pub mark-spec : {M : Type 1} → statement M
 mark-spec =
     tie.close
     (tie.spec
+    place-of-requires
     mul-hint-of
     slice-read-hint-of
     hint-of-requires
