@@ -3,12 +3,19 @@
 use libc::STDIN_FILENO;
 use libc::STDOUT_FILENO;
 use month::Counts;
+use month::input;
 use opener::load;
 ghost use mathlib.Core.Path.{_≡_};
-ghost use lib.ListN.{length};
+ghost use Prim.Native.Nat.{_≤_};
+ghost use lib.ListN.{length, take};
+ghost use Rattle.standard.specs.Delivery.{Bytes};
+ghost use Rattle.table.specs.Lines.{lines};
+ghost use Rattle.ledger.specs.Up.{Sized};
+ghost use Rattle.month.specs.Held.{Held};
+ghost use Rattle.month.specs.Text.{monthText};
 
-// Takes the whole input into the bill. A proved loop has to end, so it counts its turns down from a number that no run
-// uses up.
+// Takes the input to its end into the bill: what it holds then is the bill of the lines of some bytes, those that were
+// read. A proved loop has to end, so it counts its turns down from a number that no run uses up.
 fn take_input(
     aliases: &[u8],
     likely: &[u8],
@@ -17,62 +24,66 @@ fn take_input(
     keys: &mut [u8],
     counts: &mut [u64],
 ) -> Counts
-    requires { ⌜ (length (now block) ≡ 65536) × (length (now piece) ≡ 66048) ⌝ }
+    requires { ⌜ (length (now piece) ≡ 262404) × Sized (now keys) (now counts) ⌝ }
+    ensures { λ r. ⌜ ((x : Bytes) × Held (now (aliases .entry)) (now (likely .entry)) (lines x) r (now (keys .exit)) (now (counts .exit))) ⌝ }
 {
-    let mut c = month::start(aliases, likely);
-    let mut kept: usize = 0;
+    let mut i = input::begin(aliases, likely);
     let mut turns = u64::MAX;
     while turns > 0 {
         let got = libc::read(STDIN_FILENO, block);
         let n = io::count(got, block);
         if n == 0 {
-            return month::add(c, &piece[..kept], aliases, likely, keys, counts);
+            return input::end(i, aliases, likely, piece, keys, counts);
         }
-        let t = lines::take_in(&block[..n], piece, kept);
-        let whole = t.whole;
-        c = month::add(c, &piece[..whole], aliases, likely, keys, counts);
-        kept = lines::keep_rest(piece, whole, t.end);
+        i = input::take_block(i, &block[..n], aliases, likely, piece, keys, counts);
         turns -= 1;
     }
-    c
+    input::end(i, aliases, likely, piece, keys, counts)
 }
 
-// Room for a block of input behind an unfinished line.
-fn piece_buffer() -> [u8; 66048]
-    ensures { λ r. ⌜ 66048 ≡ length r ⌝ }
+// Room for a block of input. The larger it is, the less the test of the tables costs a line.
+fn block_buffer() -> [u8; 262144]
+    ensures { λ r. ⌜ 262144 ≡ length r ⌝ }
 {
-    [0; 66048]
+    [0; 262144]
+}
+
+// Room for a block behind an unfinished line.
+fn piece_buffer() -> [u8; 262404]
+    ensures { λ r. ⌜ length r ≡ 262404 ⌝ }
+{
+    [0; 262404]
 }
 
 // The arrays of a bill.
-fn key_room() -> [u8; 16384] {
+fn key_room() -> [u8; 16384]
+    ensures { λ r. ⌜ length r ≡ 16384 ⌝ }
+{
     [0; 16384]
 }
 
-fn count_room() -> [u64; 1024] {
+fn count_room() -> [u64; 1024]
+    ensures { λ r. ⌜ length r ≡ 1024 ⌝ }
+{
     [0; 1024]
 }
 
-// Writes the bill's text into out and prints it.
-fn print_bill(c: Counts, keys: &[u8], counts: &[u64], out: &mut [u8]) {
-    let len = month::text::write(c, keys, counts, out);
-    io::write_all(STDOUT_FILENO, &out[..len]);
-}
-
-fn run(aliases: &[u8], likely: &[u8]) {
-    let mut block = io::large_buffer();
+// Makes the text of the bill at the front of the block, and gives its length: the text for the lines that were read.
+fn make_text(aliases: &[u8], likely: &[u8], block: &mut [u8]) -> usize
+    requires { ⌜ 65536 ≤ length (now block) ⌝ }
+    ensures { λ r. ⌜ (r ≤ length (now (block .exit))) × ((x : Bytes) × (take r (now (block .exit)) ≡ monthText (now (aliases .entry)) (now (likely .entry)) (lines x))) ⌝ }
+{
     let mut piece = piece_buffer();
     let mut keys = key_room();
     let mut counts = count_room();
-    let c = take_input(
-        aliases,
-        likely,
-        &mut block,
-        &mut piece,
-        &mut keys,
-        &mut counts,
-    );
-    print_bill(c, &keys, &counts, &mut block);
+    let c = take_input(aliases, likely, block, &mut piece, &mut keys, &mut counts);
+    month::text::write(c, &keys, &counts, block)
+}
+
+fn run(aliases: &[u8], likely: &[u8]) {
+    let mut block = block_buffer();
+    let len = make_text(aliases, likely, &mut block);
+    io::write_all(STDOUT_FILENO, &block[..len]);
 }
 
 fn main() {

@@ -3,7 +3,7 @@ use mathlib.Core.Path.{_≡_, refl, sym, ap, _∙_}
 use mathlib.Core.Bool.{Bool, true, false, _||_, _&&_, cond}
 use mathlib.Core.List.{List, [], _∷_, map}
 use mathlib.Core.Option.{Option, none, some}
-use Prim.Native.Nat.{ℕ, zero, suc, _+_, _≤_, Ordering, Ordering·lt, Ordering·eq, Ordering·gt}
+use Prim.Native.Nat.{ℕ, zero, suc, _≤_, Ordering, Ordering·lt, Ordering·eq, Ordering·gt}
 use native.Mathlib.Omega.{arith}
 use lib.Dec.{ltb, eqb}
 use lib.ListN.{length, take}
@@ -16,7 +16,7 @@ use Rattle.standard.proofs.Tags.{order-flip, order-eq, flip}
 use Rattle.standard.proofs.Faults.{order-trans}
 use Rattle.billing.specs.Order.{Reordered, ended, kept, swapped, again}
 use Rattle.billing.proofs.Keys.{or-swap}
-use Rattle.billing.specs.Bill.{Usage, usage, accepted, usages, refusing, refusals, keysOf, more, deliveries, used, membersUpTo, members, Row, rowOf, Bill, bill, none-made, mostKeys, mostLines, billOf}
+use Rattle.billing.specs.Bill.{Usage, usage, accepted, usages, refusing, refusals, keysOf, more, deliveries, used, membersUpTo, members, Row, rowOf, bill, none-made, mostKeys, mostLines, billOf}
 
 pub reordered-refl : {A : Type 0} (xs : List A) → Reordered xs xs
 reordered-refl [] = ended
@@ -37,15 +37,15 @@ map-order f (swapped x y xs) = swapped (f x) (f y) (map f xs)
 map-order f (again xs ys zs r s) = again (map f xs) (map f ys) (map f zs) (map-order f r) (map-order f s)
 
 -- sorting
-ins-lt : (x y : Tag) (ys : List Tag) → order x y ≡ Ordering·lt → insertBy itself x (y ∷ ys) ≡ x ∷ y ∷ ys
+pub ins-lt : (x y : Tag) (ys : List Tag) → order x y ≡ Ordering·lt → insertBy itself x (y ∷ ys) ≡ x ∷ y ∷ ys
 unfolding insertBy
 ins-lt x y ys e = rw (e, insertBy)
 
-ins-eq : (x y : Tag) (ys : List Tag) → order x y ≡ Ordering·eq → insertBy itself x (y ∷ ys) ≡ x ∷ ys
+pub ins-eq : (x y : Tag) (ys : List Tag) → order x y ≡ Ordering·eq → insertBy itself x (y ∷ ys) ≡ x ∷ ys
 unfolding insertBy
 ins-eq x y ys e = rw (e, insertBy)
 
-ins-gt : (x y : Tag) (ys : List Tag) → order x y ≡ Ordering·gt → insertBy itself x (y ∷ ys) ≡ y ∷ insertBy itself x ys
+pub ins-gt : (x y : Tag) (ys : List Tag) → order x y ≡ Ordering·gt → insertBy itself x (y ∷ ys) ≡ y ∷ insertBy itself x ys
 unfolding insertBy
 ins-gt x y ys e = rw (e, insertBy)
 

@@ -7,11 +7,11 @@ use Prim.Native.Nat.{ℕ, suc, _+_}
 use native.Mathlib.Omega.{arith}
 use lib.Dec.{ltb}
 use lib.ListN.{length, take}
-use Rattle.standard.specs.Tag.{Tag, same, sortBy, itself}
+use Rattle.standard.specs.Tag.{Tag, same}
 use Rattle.standard.specs.Identifier.{Tables}
 use Rattle.standard.specs.Delivery.{Bytes}
 use Rattle.standard.proofs.Tags.{All, same-refl}
-use Rattle.billing.specs.Bill.{Usage, usage, accepted, usages, refusing, refusals, keysOf, more, deliveries, Row, rowOf, Bill, bill, none-made, mostKeys, mostLines, billOf, total}
+use Rattle.billing.specs.Bill.{Usage, usage, accepted, usages, refusing, refusals, keysOf, more, deliveries, Row, rowOf, bill, none-made, mostKeys, mostLines, billOf, total}
 use Rattle.billing.proofs.Keys.{elem, times, same-sym, times-sorted}
 
 -- the deliveries of some keys, by the usages

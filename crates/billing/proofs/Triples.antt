@@ -5,11 +5,11 @@ use mathlib.Core.List.{List, [], _∷_, _++_, map, append-nil}
 use mathlib.Core.Option.{Option, none, some, Option·none-ne-some}
 use Prim.Native.Nat.{ℕ, suc}
 use lib.ListN.{length}
-use Rattle.standard.specs.Tag.{Tag, same, sortBy, itself}
+use Rattle.standard.specs.Tag.{Tag, same}
 use Rattle.standard.specs.Grammar.{flat}
 use Rattle.standard.specs.Identifier.{Three, three, Identifier, Tables, Answer, done, refused, canonicalForm, withThree, withoutUnknown, maximalThree, trial, minimalThree, maximised, minimised, sameThree, Good}
 use Rattle.standard.specs.Reading.{Read, good, bad, read, split, print, tags, rest, joined, optional, identifierOf}
-use Rattle.standard.specs.Chain.{Line, line}
+use Rattle.standard.specs.Chain.{line}
 use Rattle.standard.specs.Make.{identifier}
 use Rattle.standard.specs.Delivery.{Bytes}
 use Rattle.standard.specs.Table.{printThree, tablesOf, check}
@@ -17,14 +17,14 @@ use Rattle.standard.proofs.Tags.{All, Ascending, same-eq, same-refl}
 use Rattle.standard.proofs.Bytes.{and-true}
 use Rattle.standard.proofs.Faults.{Variants}
 use Rattle.standard.proofs.Core.{Full, shrink-maximal}
-use Rattle.standard.proofs.Operations.{Maximal, maximised-form, maximised-maximal, minimised-done, shrunk}
-use Rattle.standard.proofs.Round.{Shaped, Printable, unprint}
+use Rattle.standard.proofs.Operations.{maximised-form, maximised-maximal, minimised-done, shrunk}
+use Rattle.standard.proofs.Round.{Shaped, unprint}
 use Rattle.standard.proofs.Lines.{Plain, plain-printable}
 use Rattle.standard.proofs.Closed.{ShapedTables, fill-shaped, shrink-shaped, strip-shaped, canon-printable}
 use Rattle.standard.proofs.Sound.{Raw, read-raw}
-use Rattle.standard.proofs.Table.{Passed, passed, good-tables, shaped-tables}
+use Rattle.standard.proofs.Table.{passed, good-tables, shaped-tables}
 use Rattle.standard.proofs.Whole.{narrow-likely}
-use Rattle.billing.specs.Bill.{Usage, memberOf, beforeTab, afterTab, keyOfAnswer, keyOfRead, keyOf, usageBy, usageAt, usage, accepted, usages, keysOf, more, tripleOfAnswer, tripleOfRead, tripleBy, triple, triples, oneOf, differentThrees, Row, rowOf, Bill, bill, billOf}
+use Rattle.billing.specs.Bill.{Usage, memberOf, beforeTab, afterTab, keyOfAnswer, keyOfRead, keyOf, usageBy, usageAt, usage, accepted, usages, keysOf, more, tripleOfAnswer, tripleOfRead, tripleBy, triple, triples, oneOf, differentThrees, Row, rowOf, bill, billOf}
 use Rattle.billing.proofs.Keys.{elem, different, sorted-length}
 use Rattle.billing.proofs.Sums.{bill-parts}
 

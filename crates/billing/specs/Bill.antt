@@ -7,7 +7,7 @@ use Prim.Native.Nat.{ℕ, zero, suc, _+_, _-_, _*_}
 use lib.Dec.{eqb, leb, ltb}
 use lib.ListN.{length, take}
 use Rattle.standard.specs.Tag.{Tag, same, sortBy, itself}
-use Rattle.standard.specs.Identifier.{Three, Identifier, Tables, Answer, done, refused, maximised, minimised, sameThree}
+use Rattle.standard.specs.Identifier.{Three, Tables, Answer, done, refused, maximised, minimised, sameThree}
 use Rattle.standard.specs.Reading.{Read, good, bad, read}
 use Rattle.standard.specs.Delivery.{Bytes}
 use Rattle.standard.specs.Table.{printThree}

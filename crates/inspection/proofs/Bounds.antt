@@ -10,7 +10,6 @@ use lib.Seq.{take-all, length-take-le}
 use Rattle.standard.specs.Reading.{bad}
 use Rattle.standard.specs.Report.{Report, reportOf, report}
 use Rattle.subtag.proofs.Walk.{le-or-lt}
-use Rattle.reader.specs.declared.report.Report.{Report as Read·Report}
 use Rattle.reader.specs.Words.{reportIs, refusedReport}
 use Rattle.reader.proofs.Outcomes.{outcome-long}
 use Rattle.reader.proofs.Reports.{report-bad}
@@ -21,6 +20,7 @@ use Rattle.lines.proofs.Pieces.{rows-handed}
 use Rattle.fields.specs.Fields.{field, askedOf}
 use Rattle.inspection.specs.Rows.{fieldsText, reportText, rowOf}
 use Rattle.fields.proofs.Laws.{asked-two, asked-short, field-length}
+use Rattle.reader.specs.declared.report.Report.{Report as Read·Report}
 
 -- what is printed as asked has at most 255 bytes
 long-asked : (x : List ℕ) → 255 < length x → length (askedOf ((report x) .number) x) ≤ 255

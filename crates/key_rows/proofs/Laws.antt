@@ -12,21 +12,18 @@ use lib.Seq.{sets, sets-eq, take-all, take-at, length-take-le}
 use borrow.Author.Tests.{eq-eqb, ne-eqb, le-leb}
 use Rattle.subtag.proofs.Walk.{le-or-lt}
 use Rattle.standard.specs.Delivery.{Bytes, Made, result, refusal, Given, given}
-use Rattle.standard.specs.Identifier.{Identifier}
 use Rattle.standard.specs.Calls.{minimise}
-use Rattle.standard.specs.Reading.{Fault, split, identifierOf, faultOf, good, bad, readAs, read}
+use Rattle.standard.specs.Reading.{good, bad, read}
 use Rattle.standard.specs.Table.{TableFault, tablesOf, check}
 use Rattle.standard.specs.Make.{make, makeOf, whole}
 use Rattle.standard.proofs.Demand.{result-of}
 use Rattle.standard.proofs.Numbers.{Proper, whole-proper, TableWithin, check-within}
 use Rattle.standard.proofs.Table.{passed, good-tables, shaped-tables}
 use Rattle.standard.proofs.Whole.{narrow-likely}
-use Rattle.reader.specs.Parts.{parts, refused, partsOf, outcomeAs, outcome}
-use Rattle.reader.proofs.Outcomes.{outcome-long}
+use Rattle.reader.specs.Parts.{refused}
+use Rattle.standard.proofs.Long.{read-long, read-short}
 use Rattle.canonical.specs.Answer.{answerOf, refusedAnswer, refusedTable}
-use Rattle.canonical.specs.declared.delivery.Answer.{Answer as Answered}
 use Rattle.likely.specs.Both.{TestedBoth, operationOf}
-use Rattle.likely.specs.declared.tested.Answered.{Answered as Outcome}
 use Rattle.likely.specs.Answered.{givenAnswered}
 use Rattle.likely.specs.Whole.{answerBy}
 use Rattle.likely.proofs.Checked.{answer-given, whole-good, whole-minimised}
@@ -41,22 +38,10 @@ use Rattle.verdict.specs.declared.Verdict.the-variants.{Bad}
 use Rattle.verdict.specs.Verdicts.{verdictIs}
 use Rattle.key_rows.specs.declared.Keyed.{Keyed}
 use Rattle.key_rows.specs.Keys.{numberOf, keptOf, answerText, madeKey, keyRow, keptText, Answer, rowsGiven, afterTables, keysGiven, keyedIs}
+use Rattle.canonical.specs.declared.delivery.Answer.{Answer as Answered}
+use Rattle.likely.specs.declared.tested.Answered.{Answered as Outcome}
 
 -- A line of more than 255 bytes is refused with 2.
-read-long : (x : Bytes) → 255 < length x → read x ≡ bad 2 0
-unfolding read readAs outcome outcomeAs
-read-long x h = go (faultOf x) (outcome-long x h)
-  where
-    parts-not : {n p : ℕ} {q : _} {Q : Type 0} → refused n p ≡ parts q → Q
-    parts-not e = let z : _≡_ {A = ℕ} 0 1 = cc in absurd (omega arith)
-
-    same-numbers : {n p m q : ℕ} → refused n p ≡ refused m q → bad m q ≡ bad n p
-    same-numbers e = cc
-
-    go : (o : Option Fault) → refused 2 0 ≡ outcomeAs o (partsOf (split x)) → readAs o (identifierOf (split x)) ≡ bad 2 0
-    go none e = parts-not e
-    go (some f) e = same-numbers e
-
 made-long : (A L x : Bytes) → 255 < length x → madeKey A L x ≡ refusal 2 0 0
 unfolding madeKey make makeOf
 made-long A L x h = rw (read-long x h)
@@ -75,16 +60,13 @@ sets-front : (text out : Bytes) → length text ≤ length out → sets out 0 te
 sets-front text out h = sets-eq text out 0 (omega arith) ∙ (let z : 0 + length text ≡ length text = omega arith in rw z refl)
 
 -- A form has at most 255 bytes: it is read back.
-good-not : {i : Identifier} {n p : ℕ} {Q : Type 0} → good i ≡ bad n p → Q
-good-not q = let z : _≡_ {A = ℕ} 0 1 = cc in absurd (omega arith)
-
 module _ (A L x : Bytes) (pass : check true false A L [] ≡ none) where
   form-short : (r : Bytes) (w : ℕ) → madeKey A L x ≡ result r w → length r ≤ 255
   unfolding madeKey
   form-short r w e =
       let k = passed A L [] (narrow-likely A L ∙ pass) in
       let q = result-of (tablesOf A L []) (good-tables A L [] k) (shaped-tables A L [] k) minimise x r w e in
-      ⊎-elim (λ h. h) (λ h. good-not (sym (q .back) ∙ read-long r h)) (le-or-lt (length r) 255)
+      read-short r (q .output) (q .back)
 
   made-proper : Proper (madeKey A L x)
   unfolding madeKey whole operationOf

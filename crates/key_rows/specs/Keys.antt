@@ -27,7 +27,7 @@ keptOf (refusal n p t) = 45 ∷ []
 unfoldable pub answerText : ℕ → Bytes → Bytes → Bytes
 answerText number x kept = field (askedOf number x) 9 ++ (field (decimal number) 9 ++ field kept 10)
 
--- the row of the line x, over aliases A and likely L
+-- what minimising makes of the line x, over aliases A and likely L; and the row of the line
 unfoldable pub madeKey : Bytes → Bytes → Bytes → Made
 madeKey A L x = make (tablesOf A L []) minimise x
 

@@ -9,6 +9,7 @@ use likely::whole::answer;
 use lines::next_line;
 use table::end_of;
 use table::hints::fill_hints;
+use table::hints::many;
 use verdict::Verdict;
 use verdict::check_likely;
 ghost use mathlib.Core.Path.{_≡_};
@@ -122,21 +123,14 @@ fn rows_hinted(
     }
 }
 
-// Room for the hints of a table.
-fn hint_buffer() -> [u16; 16384]
-    ensures { λ r. ⌜ length r ≡ 16384 ⌝ }
-{
-    [0u16; 16384]
-}
-
 // The rows over tables that passed the check: their hints and the room for a form are made once for all lines.
 fn rows_tested(piece: &[u8], aliases: &[u8], likely: &[u8], out: &mut [u8]) -> Keyed
     requires { ⌜ TestedBoth (now aliases) (now likely) ⌝ }
     ensures { λ r. ⌜ (keyedIs r (now (out .exit)) ≡ keysGiven (now (aliases .entry)) (now (likely .entry)) (now (piece .entry)) (now (out .entry))) × (r .used ≤ length (now (piece .entry))) × (r .len ≤ length (now (out .entry))) ⌝ }
 {
-    let mut a = hint_buffer();
+    let mut a = many();
     fill_hints(aliases, &mut a);
-    let mut l = hint_buffer();
+    let mut l = many();
     fill_hints(likely, &mut l);
     let mut form = form_buffer();
     rows_hinted(piece, aliases, &a, likely, &l, &mut form, out)

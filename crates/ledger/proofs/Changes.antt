@@ -5,14 +5,14 @@ use mathlib.Core.List.{List, [], _∷_}
 use Prim.Native.Nat.{ℕ, zero, suc, _+_, _-_, _*_, _≤_, _<_}
 use native.Mathlib.Omega.{arith}
 use lib.Bits.{bitOr}
-use lib.ListN.{getD, length, set, take, drop, length-set}
+use lib.ListN.{getD, length, set, length-set}
 use lib.Seq.{getD-set-same, getD-set-other}
 use Rattle.standard.specs.Tag.{Tag, same}
 use Rattle.standard.specs.Delivery.{Bytes}
 use Rattle.billing.specs.Bill.{Usage}
 use Rattle.ledger.specs.Entries.{Entry, markOf, fresh, again, addTo, placeIn, insertAt, changeAt, hitAt}
 use Rattle.ledger.specs.Places.{textAt, entryAt, entriesFrom, KeyMore, CountsMore}
-use Rattle.ledger.specs.Up.{Up, Few, Added}
+use Rattle.ledger.specs.Up.{Few, Added}
 use Rattle.ledger.proofs.Adding.{add-hit, add-miss}
 
 pub hit-in : (ks : Bytes) (cs : List ℕ) (k : Tag) (at i n : ℕ) → at < n → hitAt k at (entriesFrom ks cs i n) ≡ same (textAt ks (i + at)) k

@@ -1,11 +1,10 @@
 -- Adding a usage makes the entries of one usage more; they ascend, and their marks count the members. Assumes nothing.
 use mathlib.Core.Path.{_≡_, refl, sym, ap, ap₂, _∙_}
-use mathlib.Core.Bool.{Bool, true, false, _||_, _&&_}
+use mathlib.Core.Bool.{Bool, true, false, _||_}
 use mathlib.Core.List.{List, [], _∷_, map}
-use Prim.Native.Nat.{ℕ, zero, suc, _+_, _-_, _≤_, _<_, Ordering, Ordering·lt, Ordering·eq, Ordering·gt}
+use Prim.Native.Nat.{ℕ, suc, _+_, _-_, _≤_, _<_, Ordering, Ordering·lt, Ordering·eq, Ordering·gt}
 use native.Mathlib.Omega.{arith}
 use lib.Bits.{bitOr, or-zero-l}
-use lib.Dec.{isEq}
 use lib.ListN.{length}
 use Rattle.standard.specs.Tag.{Tag, order, same, insertBy, sortBy, itself}
 use Rattle.standard.proofs.Tags.{order-flip, order-eq, same-refl, flip, Ascending, sort-ascending}
@@ -13,6 +12,7 @@ use Rattle.standard.proofs.Faults.{order-trans}
 use Rattle.standard.proofs.Bytes.{clash}
 use Rattle.billing.specs.Bill.{Usage, keysOf, more, deliveries}
 use Rattle.billing.proofs.Keys.{elem, same-sym, below-out, ascending-rest, elem-sorted}
+use Rattle.billing.proofs.Orders.{ins-lt, ins-eq, ins-gt}
 use Rattle.ledger.specs.Entries.{Entry, markOf, fresh, again, addTo}
 use Rattle.ledger.specs.Ledger.{marksOf, entryOf, entriesOf}
 use Rattle.ledger.specs.Up.{Up, Few}
@@ -70,18 +70,6 @@ entries-after : (u : Usage) (us : List Usage) (ys : List Tag) → Ascending itse
 unfolding Ascending
 entries-after u us [] a = refl
 entries-after u us (y ∷ ys) a = entries-above u us y ys (a .0) (a .1)
-
-ins-lt : (x y : Tag) (ys : List Tag) → order x y ≡ Ordering·lt → insertBy itself x (y ∷ ys) ≡ x ∷ y ∷ ys
-unfolding insertBy
-ins-lt x y ys e = rw (e, insertBy)
-
-ins-eq : (x y : Tag) (ys : List Tag) → order x y ≡ Ordering·eq → insertBy itself x (y ∷ ys) ≡ x ∷ ys
-unfolding insertBy
-ins-eq x y ys e = rw (e, insertBy)
-
-ins-gt : (x y : Tag) (ys : List Tag) → order x y ≡ Ordering·gt → insertBy itself x (y ∷ ys) ≡ y ∷ insertBy itself x ys
-unfolding insertBy
-ins-gt x y ys e = rw (e, insertBy)
 
 add-keys : (u : Usage) (us : List Usage) (ys : List Tag) → Ascending itself ys → (elem (u .key) ys ≡ false → (deliveries (u .key) us ≡ 0) × (marksOf (u .key) us ≡ 0))
     → map (entryOf (u ∷ us)) (insertBy itself (u .key) ys) ≡ addTo u (map (entryOf us) ys)

@@ -1,8 +1,8 @@
 -- The marks of an entry are as many as the members that used its key. Assumes nothing.
 use mathlib.Core.Path.{_≡_, refl, sym, ap, ap₂, _∙_}
-use mathlib.Core.Bool.{Bool, true, false, _||_, _&&_}
+use mathlib.Core.Bool.{Bool, true, false, _&&_}
 use mathlib.Core.List.{List, [], _∷_}
-use Prim.Native.Nat.{ℕ, zero, suc, max, _+_, _-_, _*_, _/_, _%_, _^_, _≤_, _<_}
+use Prim.Native.Nat.{ℕ, zero, suc, max, _+_, _-_, _*_, _/_, _%_, _^_, _≤_}
 use native.Mathlib.Nat.{pow-suc}
 use native.Mathlib.Omega.{arith}
 use lib.Bits.{bitOr, or-step, or-zero-r}
@@ -11,7 +11,6 @@ use lib.Dec.{eqb, leb}
 use borrow.Author.Tests.{eq-eqb, ne-eqb, eqb-true, eqb-false, leb-true, leb-false}
 use Rattle.standard.specs.Tag.{Tag, same}
 use Rattle.standard.proofs.Tags.{All}
-use Rattle.standard.proofs.Bytes.{clash}
 use Rattle.billing.specs.Bill.{Usage, more, used, membersUpTo, members}
 use Rattle.reader.specs.Marks.{bit}
 use Rattle.reader.proofs.Bits.{ones-mark, bit-mark-same, bit-mark-other, or-mark, bit-zero}

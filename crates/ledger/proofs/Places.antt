@@ -1,18 +1,14 @@
 -- Laws of entries by their places: the search by halves, a changed entry, an entry more. Assumes nothing.
 use mathlib.Core.Path.{_≡_, refl, sym, ap, ap₂, _∙_}
-use mathlib.Core.Bool.{Bool, true, false, cond}
-use mathlib.Core.List.{List, [], _∷_}
+use mathlib.Core.List.{List, _∷_}
 use Prim.Native.Nat.{ℕ, zero, suc, _+_, _-_, _*_, _≤_, _<_, Ordering, Ordering·lt, Ordering·eq, Ordering·gt}
 use native.Mathlib.Omega.{arith}
-use native.Mathlib.Numerals.{add-one}
 use lib.ListN.{getD, length, take, drop}
 use lib.Seq.{drop-cons}
-use Rattle.standard.specs.Tag.{Tag, order, same}
+use Rattle.standard.specs.Tag.{Tag, order}
 use Rattle.standard.specs.Delivery.{Bytes}
-use Rattle.standard.proofs.Bytes.{clash}
 use Rattle.standard.proofs.Faults.{order-trans}
-use Rattle.billing.specs.Bill.{Usage}
-use Rattle.ledger.specs.Entries.{Entry, placeIn, insertAt, changeAt, hitAt}
+use Rattle.ledger.specs.Entries.{placeIn}
 use Rattle.ledger.specs.Places.{bytesAt, atMost31, textAt, entryAt, entriesFrom}
 use Rattle.ledger.specs.Up.{Up}
 

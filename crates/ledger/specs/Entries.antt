@@ -1,14 +1,11 @@
 -- The entries of a bill that is being made: for each key, in byte order, a mark for each member and the deliveries.
 -- Assumes nothing.
-use mathlib.Core.Bool.{Bool, true, false, cond}
-use mathlib.Core.List.{List, [], _∷_, map}
-use Prim.Native.Nat.{ℕ, zero, suc, _+_, _-_, _*_, _^_, Ordering, Ordering·lt, Ordering·eq, Ordering·gt}
+use mathlib.Core.Bool.{Bool, false}
+use mathlib.Core.List.{List, [], _∷_}
+use Prim.Native.Nat.{ℕ, zero, suc, _+_, _-_, _^_, Ordering·lt, Ordering·eq, Ordering·gt}
 use lib.Bits.{bitOr}
-use lib.Dec.{leb}
-use lib.ListN.{getD}
 use Rattle.standard.specs.Tag.{Tag, order, same}
-use Rattle.standard.specs.Delivery.{Bytes}
-use Rattle.billing.specs.Bill.{Usage, keysOf, deliveries}
+use Rattle.billing.specs.Bill.{Usage, deliveries}
 
 -- marks has the bit of member m at m - 1
 pub record Entry : Type 0 where

@@ -1,7 +1,7 @@
 -- The entries of usages, the latest first. Assumes nothing.
-use mathlib.Core.Bool.{Bool, true, false}
+use mathlib.Core.Bool.{true, false}
 use mathlib.Core.List.{List, [], _∷_, map}
-use Prim.Native.Nat.{ℕ, suc, _+_}
+use Prim.Native.Nat.{ℕ}
 use lib.Bits.{bitOr}
 use Rattle.standard.specs.Tag.{Tag, same}
 use Rattle.billing.specs.Bill.{Usage, keysOf, deliveries}

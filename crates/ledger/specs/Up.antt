@@ -4,7 +4,7 @@ use mathlib.Core.List.{List, [], _∷_}
 use Prim.Native.Nat.{ℕ, Ordering·lt, _≤_, _<_}
 use Rattle.standard.specs.Tag.{order}
 use lib.ListN.{length}
-use Rattle.billing.specs.Bill.{Usage, mostLines}
+use Rattle.billing.specs.Bill.{Usage}
 use Rattle.standard.specs.Delivery.{Bytes}
 use Rattle.ledger.specs.Entries.{Entry, addTo}
 use Rattle.ledger.specs.Places.{entriesFrom}

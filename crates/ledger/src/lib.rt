@@ -6,7 +6,6 @@ ghost use mathlib.Core.Path.{_≡_};
 ghost use mathlib.Core.Bool.{true};
 ghost use mathlib.Core.List.{List};
 ghost use Prim.Native.Nat.{ℕ, _+_, _*_, _≤_, _<_};
-ghost use lib.Bits.{bitOr};
 ghost use lib.ListN.{length, getD};
 ghost use Rattle.standard.specs.Tag.{order};
 ghost use Rattle.standard.specs.Delivery.{Bytes};
@@ -170,7 +169,8 @@ pub fn add(keys: &mut [u8], counts: &mut [u64], n: usize, member: u8, key: &[u8]
     requires { ⌜ (n ≤ 512) × Sized (now keys) (now counts) × (length (now key) ≤ 31) × (1 ≤ member) × (member ≤ 64) ⌝ }
     ensures { λ r. ⌜ Sized (now (keys .exit)) (now (counts .exit)) × (r ≤ 513)
         × ((u : Usage) → u .key ≡ now (key .entry) → u .member ≡ member → Up (entriesFrom (now (keys .entry)) (now (counts .entry)) 0 n) → Few (entriesFrom (now (keys .entry)) (now (counts .entry)) 0 n)
-        → Added u (entriesFrom (now (keys .entry)) (now (counts .entry)) 0 n) (now (keys .exit)) (now (counts .exit)) r) ⌝ }
+        → Added u (entriesFrom (now (keys .entry)) (now (counts .entry)) 0 n) (now (keys .exit)) (now (counts .exit)) r)
+        × (512 < r → (now (keys .exit) ≡ now (keys .entry)) × (now (counts .exit) ≡ now (counts .entry))) ⌝ }
 {
     let mark = mark_of(member);
     let at = place_of(keys, n, key);

@@ -15,7 +15,7 @@ use Rattle.standard.proofs.Bytes.{bool-cases}
 use Rattle.subtag.proofs.Stores.{sets-append, plain-next}
 use Rattle.subtag.proofs.Walk.{le-or-lt}
 use Rattle.table.specs.Lines.{lines}
-use Rattle.lines.specs.Squeeze.{Bytes, nextRun, kept, squeezed, runAfter, takenIn, wholeLength, handed, allLines, together}
+use Rattle.lines.specs.Squeeze.{Bytes, nextRun, kept, squeezed, runAfter, takenIn, wholeLength, handedOver, unfinished, handed, allLines, together}
 
 -- One byte: 0A, one that is kept, and one that is not.
 pub next-end : (run b : ℕ) → b ≡ 10 → nextRun run b ≡ 0
@@ -158,7 +158,7 @@ module _ (u b : Bytes) (c : Cut (u ++ squeezed (length u) b) (runAfter (length u
   whole-length = rw (taken-parts) (omega (arith, length-append (c .whole) (c .rest), c .size))
 
 handed-lines : (u : Bytes) (bs : List Bytes) → Plain u → allLines (handed u bs) ≡ lines (u ++ squeezed (length u) (together bs))
-unfolding handed allLines together squeezed
+unfolding handed handedOver unfinished allLines together squeezed
 handed-lines u [] p = append-nil (lines u) ∙ ap lines (sym (append-nil u))
 handed-lines u (b ∷ bs) p =
     let c = cut u b p in

@@ -1,8 +1,9 @@
 -- The line reader: of a line only the first 260 bytes are kept, and what is handed over piece by piece are whole lines.
 -- Assumes nothing.
+use mathlib.Core.Path.{_≡_}
 use mathlib.Core.Bool.{cond}
 use mathlib.Core.List.{List, [], _∷_, _++_}
-use Prim.Native.Nat.{ℕ, suc, _-_}
+use Prim.Native.Nat.{ℕ, suc, _-_, _≤_}
 use lib.Dec.{eqb, ltb}
 use lib.ListN.{length, take, drop}
 use Rattle.table.specs.Lines.{lines}
@@ -35,11 +36,18 @@ takenIn u b = u ++ squeezed (length u) b
 unfoldable pub wholeLength : Bytes → Bytes → ℕ
 wholeLength u b = length (takenIn u b) - runAfter (length u) b
 
--- What is handed over, piece by piece, of blocks of input: the whole lines of each block, and at the end of the input the
--- unfinished line.
+-- What is handed over, piece by piece, of blocks of input behind the unfinished line u: the whole lines of each block;
+-- and the unfinished line after them, which is handed over at the end of the input.
+unfoldable pub handedOver : Bytes → List Bytes → List Bytes
+handedOver u [] = []
+handedOver u (b ∷ bs) = take (wholeLength u b) (takenIn u b) ∷ handedOver (drop (wholeLength u b) (takenIn u b)) bs
+
+unfoldable pub unfinished : Bytes → List Bytes → Bytes
+unfinished u [] = u
+unfinished u (b ∷ bs) = unfinished (drop (wholeLength u b) (takenIn u b)) bs
+
 unfoldable pub handed : Bytes → List Bytes → List Bytes
-handed u [] = u ∷ []
-handed u (b ∷ bs) = take (wholeLength u b) (takenIn u b) ∷ handed (drop (wholeLength u b) (takenIn u b)) bs
+handed u bs = handedOver u bs ++ (unfinished u bs ∷ [])
 
 unfoldable pub allLines : List Bytes → List Bytes
 allLines [] = []
@@ -48,3 +56,9 @@ allLines (x ∷ xs) = lines x ++ allLines xs
 unfoldable pub together : List Bytes → Bytes
 together [] = []
 together (x ∷ xs) = x ++ together xs
+
+-- a piece that has the unfinished line after the blocks bs in its first `kept` bytes
+pub record Carries (bs : List Bytes) (piece : Bytes) (kept : ℕ) : Type 0 where
+  pub few : kept ≤ 260
+  pub fits : kept ≤ length piece
+  pub line : take kept piece ≡ unfinished [] bs

@@ -1,33 +1,33 @@
 -- The counts and the arrays print the bill of the lines taken. Assumes nothing.
 use mathlib.Core.Path.{_≡_, refl, sym, ap, ap₂, _∙_, subst}
-use mathlib.Core.Bool.{Bool, true, false, cond}
-use mathlib.Core.Logic.{_⊎_, inl, inr}
+use mathlib.Core.Bool.{true, false}
+use mathlib.Core.Logic.{inl, inr}
 use mathlib.Core.List.{List, [], _∷_, _++_, map, reverseAux, append-nil}
 use mathlib.Core.Option.{Option, none, some, Option·none-ne-some}
-use Prim.Native.Nat.{ℕ, zero, suc, _+_, _≤_, _<_}
+use Prim.Native.Nat.{ℕ, _+_, _≤_, _<_}
 use native.Mathlib.Omega.{arith}
-use lib.Dec.{eqb, ltb}
 use lib.ListN.{length, take}
 use lib.Seq.{sets, take-all}
-use borrow.Author.Tests.{eq-eqb, ne-eqb, lt-ltb, le-ltb}
+use borrow.Author.Tests.{eq-eqb, ne-eqb, lt-ltb, le-ltb, lt-leb, le-leb}
 use Rattle.standard.specs.Tag.{Tag}
 use Rattle.standard.specs.Identifier.{Tables}
 use Rattle.standard.specs.Delivery.{Bytes}
 use Rattle.standard.specs.Table.{TableFault, tablesOf, check}
 use Rattle.standard.proofs.Tags.{All}
 use Rattle.standard.proofs.Numbers.{TableWithin, check-within}
+use Rattle.subtag.proofs.Stores.{written}
 use Rattle.fields.specs.Fields.{decimal, field, tableText}
-use Rattle.billing.specs.Bill.{Usage, usage, usageAt, usageBy, usages, accepted, refusals, memberOf, beforeTab, afterTab, keyOf, keysOf, members, rowOf, Bill, bill, none-made, billOf, mostKeys, mostLines}
+use Rattle.billing.specs.Bill.{Usage, usage, usageAt, usageBy, usages, accepted, refusals, memberOf, beforeTab, afterTab, keyOf, keysOf, rowOf, bill, billOf, mostKeys, mostLines}
 use Rattle.billing.proofs.Orders.{refusals-order, length-order, any-order}
 use Rattle.ledger.specs.Places.{entriesFrom}
 use Rattle.ledger.specs.Ledger.{entryOf, entriesOf}
 use Rattle.ledger.proofs.Changes.{length-entries}
 use Rattle.ledger.proofs.Ledgers.{entries-length}
-use Rattle.ledger.proofs.Members.{Member, Counted, marks-counted}
+use Rattle.ledger.proofs.Members.{Member, marks-counted}
 use Rattle.month.specs.declared.Counts.{Counts}
-use Rattle.month.specs.State.{Going, Stopped, Good}
-use Rattle.month.specs.Held.{Held}
-use Rattle.month.specs.Text.{header, rowText, rowsText, lastText, billText, afterTables, monthText, entryText, entriesText, countsText}
+use Rattle.month.specs.State.{only, Going, Good}
+use Rattle.month.specs.Held.{faulted, Held}
+use Rattle.month.specs.Text.{header, rowText, rowsText, lastText, billText, afterTables, monthText, entryText, entriesText, countsText, writtenText}
 use Rattle.month.proofs.Usages.{member-range}
 use Rattle.month.proofs.Goings.{back-reordered}
 
@@ -101,17 +101,53 @@ good-text T ls c ks cs (inr s) =
     text-stopped c ks cs (λ (e : c .number ≡ 0). let h = s .number in omega (arith, e, h)) (s .number)
     ∙ sym (ap billText (ap (billOf T) (sym (append-nil ls)) ∙ s .bill []))
 
-pub held-text : (A L : Bytes) (ls : List Bytes) (c : Counts) (ks : Bytes) (cs : List ℕ) → Held A L ls c ks cs → countsText c ks cs ≡ monthText A L ls
-unfolding monthText afterTables TableWithin
+held-text : (A L : Bytes) (ls : List Bytes) (c : Counts) (ks : Bytes) (cs : List ℕ) → Held A L ls c ks cs → countsText c ks cs ≡ monthText A L ls
+unfolding monthText afterTables TableWithin faulted only
 held-text A L ls c ks cs h = go (check true false A L []) refl (check-within true false A L [])
   where
     go : (o : Option TableFault) → check true false A L [] ≡ o → TableWithin o → countsText c ks cs ≡ afterTables o (billText (billOf (tablesOf A L []) ls))
     go none e w = good-text (tablesOf A L []) ls c ks cs (h .good e)
     go (some f) e w =
         let n = h .bad f e in
-        text-table c ks cs (λ (z : c .number ≡ 0). let y = n .number in omega (arith, w .0, y, z)) (let y = n .number in omega (arith, w .1, y))
-        ∙ ap₂ (λ (a b : ℕ). tableText a b (c .place)) (n .number) (n .table) ∙ ap (tableText (f .fault .number) (f .table)) (n .place)
+        let y : c .number ≡ f .fault .number = ap (λ (x : Counts). x .number) n in
+        text-table c ks cs (λ (z : c .number ≡ 0). omega (arith, w .0, y, z)) (omega (arith, w .1, y)) ∙ ap (λ (x : Counts). tableText (x .number) (x .table) (x .place)) n
 
--- what was written of the counts and the arrays is the month's text
+-- what is written
+module _ (c : Counts) (ks : Bytes) (cs : List ℕ) (room : ℕ) where
+  pub none-short : room < 65536 → writtenText c ks cs room ≡ []
+  unfolding writtenText
+  none-short h = rw (lt-leb 65536 room h)
+
+  module _ (fits : 65536 ≤ room) where
+    pub none-keys : (length ks ≡ 16384 → ⊥) → writtenText c ks cs room ≡ []
+    unfolding writtenText
+    none-keys f = rw (le-leb 65536 room fits, ne-eqb (length ks) 16384 f)
+
+    module _ (k : length ks ≡ 16384) where
+      pub none-counts : (length cs ≡ 1024 → ⊥) → writtenText c ks cs room ≡ []
+      unfolding writtenText
+      none-counts f = rw (le-leb 65536 room fits, eq-eqb (length ks) 16384 k, ne-eqb (length cs) 1024 f)
+
+      module _ (n : length cs ≡ 1024) where
+        pub none-many : 512 < c .keys → writtenText c ks cs room ≡ []
+        unfolding writtenText
+        none-many h = rw (le-leb 65536 room fits, eq-eqb (length ks) 16384 k, eq-eqb (length cs) 1024 n, lt-leb (c .keys) 512 h)
+
+        pub all-written : c .keys ≤ 512 → writtenText c ks cs room ≡ countsText c ks cs
+        unfolding writtenText
+        all-written h = rw (le-leb 65536 room fits, eq-eqb (length ks) 16384 k, eq-eqb (length cs) 1024 n, le-leb (c .keys) 512 h)
+
+-- THE TEXT of a bill that holds lines is the text of their bill, or of the fault of the tables.
+pub held-writes : (A L : Bytes) (ls : List Bytes) (c : Counts) (ks : Bytes) (cs : List ℕ) (room : ℕ) → Held A L ls c ks cs → 65536 ≤ room → writtenText c ks cs room ≡ monthText A L ls
+held-writes A L ls c ks cs room h f = all-written c ks cs room f (h .sized .keys) (h .sized .counts) (h .bounded .keys) ∙ held-text A L ls c ks cs h
+
+-- what stands at the front of the output then
+pub text-made : (A L : Bytes) (ls : List Bytes) (c : Counts) (ks : Bytes) (cs : List ℕ) (out out₁ : Bytes) (r : ℕ) → Held A L ls c ks cs → 65536 ≤ length out
+    → (r ≡ length (writtenText c ks cs (length out))) × (out₁ ≡ sets out 0 (writtenText c ks cs (length out))) × (r ≤ length out) → take r out₁ ≡ monthText A L ls
+text-made A L ls c ks cs out out₁ r h f w =
+    let t = writtenText c ks cs (length out) in
+    ap₂ take (w .0) (w .1) ∙ written out t (omega (arith, w .0, w .2)) ∙ held-writes A L ls c ks cs (length out) h f
+
+-- what was written, by another name
 pub as-text : (x y : Bytes) (r : ℕ) (o o₁ : Bytes) → x ≡ y → r ≡ length x → o₁ ≡ sets o 0 x → (r ≡ length y) × (o₁ ≡ sets o 0 y)
 as-text x y r o o₁ e f g = (f ∙ ap length e, g ∙ ap (sets o 0) e)

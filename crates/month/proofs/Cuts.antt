@@ -1,31 +1,20 @@
 -- Of a usage line only the first 260 bytes matter: behind a tab at the third place or before it, they hold more than an
 -- identifier has. Assumes nothing.
-use mathlib.Core.Path.{_≡_, refl, sym, ap, ap₂, _∙_}
+use mathlib.Core.Path.{_≡_, refl, sym, ap, _∙_}
 use mathlib.Core.Bool.{Bool, true, false}
 use mathlib.Core.Logic.{⊎-elim}
-use mathlib.Core.List.{List, [], _∷_}
+use mathlib.Core.List.{[], _∷_}
 use mathlib.Core.Option.{Option, none, some}
-use Prim.Native.Nat.{ℕ, suc, _≤_, _<_}
+use Prim.Native.Nat.{ℕ, _<_}
 use native.Mathlib.Omega.{arith}
-use lib.Dec.{eqb, leb}
+use lib.Dec.{eqb}
 use lib.ListN.{length, take}
 use lib.Seq.{take-all, length-take-le}
-use borrow.Author.Tests.{lt-leb}
-use Rattle.standard.specs.Tag.{Tag}
 use Rattle.standard.specs.Identifier.{Tables}
 use Rattle.standard.specs.Delivery.{Bytes}
-use Rattle.standard.specs.Reading.{Read, good, bad, fault, firstOf, noBytes, tooLong, faultOf, readAs, read}
+use Rattle.standard.proofs.Long.{read-long}
 use Rattle.subtag.proofs.Walk.{le-or-lt}
-use Rattle.billing.specs.Bill.{Usage, memberOf, beforeTab, afterTab, keyOf, keyOfRead, usageBy, usageAt, usage}
-
-too-long : (x : Bytes) → 255 < length x → tooLong x ≡ fault 2 0
-unfolding tooLong
-too-long x h = rw (lt-leb (length x) 255 h, tooLong)
-
-read-long : (x : Bytes) → 255 < length x → read x ≡ bad 2 0
-unfolding read readAs faultOf firstOf noBytes
-read-long [] h = absurd (omega arith)
-read-long (b ∷ x) h = rw (too-long (b ∷ x) h)
+use Rattle.billing.specs.Bill.{memberOf, beforeTab, afterTab, keyOf, keyOfRead, usageBy, usageAt, usage}
 
 key-long : (T : Tables) (x : Bytes) → 255 < length x → keyOf T x ≡ none
 unfolding keyOf keyOfRead

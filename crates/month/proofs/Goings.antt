@@ -1,7 +1,7 @@
 -- One line more: the bill goes on, or is refused for good. Assumes nothing.
-use mathlib.Core.Path.{_≡_, refl, sym, ap, ap₂, _∙_, subst}
-use mathlib.Core.Bool.{Bool, true, false, not, cond}
-use mathlib.Core.Logic.{_⊎_, inl, inr}
+use mathlib.Core.Path.{_≡_, refl, sym, ap, _∙_, subst}
+use mathlib.Core.Bool.{Bool, true, false, not}
+use mathlib.Core.Logic.{inl, inr}
 use mathlib.Core.List.{List, [], _∷_, _++_, map, reverseAux, append-assoc, append-nil}
 use mathlib.Core.Option.{Option, none, some}
 use Prim.Native.Nat.{ℕ, zero, suc, _+_, _-_, _≤_, _<_}
@@ -10,13 +10,13 @@ use lib.Dec.{ltb}
 use lib.ListN.{length, take, length-append}
 use lib.Seq.{take-append-seam}
 use borrow.Author.Tests.{lt-ltb, le-ltb}
-use Rattle.standard.specs.Tag.{Tag, sortBy, itself}
+use Rattle.standard.specs.Tag.{Tag}
 use Rattle.standard.specs.Identifier.{Tables}
 use Rattle.standard.specs.Delivery.{Bytes}
-use Rattle.billing.specs.Order.{Reordered, ended, kept, swapped, again}
-use Rattle.billing.specs.Bill.{Usage, usage, accepted, usages, refusing, refusals, keysOf, more, bill, none-made, rowOf, mostKeys, mostLines, billOf}
+use Rattle.billing.specs.Order.{Reordered, kept, swapped, again}
+use Rattle.billing.specs.Bill.{Usage, usage, accepted, usages, refusing, refusals, keysOf, more, bill, none-made, mostKeys, mostLines, billOf}
 use Rattle.billing.proofs.Keys.{elem, different, sorted-length}
-use Rattle.billing.proofs.Orders.{reordered-refl, map-order, keys-order, usages-order, refusals-order, length-order}
+use Rattle.billing.proofs.Orders.{reordered-refl, keys-order, usages-order, refusals-order, length-order}
 use Rattle.ledger.specs.Entries.{Entry, addTo}
 use Rattle.ledger.specs.Places.{entriesFrom}
 use Rattle.ledger.specs.Ledger.{entriesOf}
@@ -25,7 +25,7 @@ use Rattle.ledger.proofs.Changes.{length-entries}
 use Rattle.ledger.proofs.Ledgers.{add-entries, entries-up, entries-few, entries-length}
 use Rattle.month.specs.declared.Counts.{Counts}
 use Rattle.month.specs.declared.line.Used.{Used}
-use Rattle.month.specs.State.{usedBy, usedIs, Bounded, stopped, oneMore, Going, Stopped, Good}
+use Rattle.month.specs.State.{usedBy, usedIs, Bounded, only, oneMore, Going, Good}
 
 -- the latest line first
 back-last : (ls : List Bytes) (l : Bytes) (rs : List Bytes) → reverseAux (ls ++ (l ∷ [])) rs ≡ l ∷ reverseAux ls rs
@@ -120,9 +120,9 @@ module _ (T : Tables) (ls : List Bytes) (c : Counts) (ks : Bytes) (cs : List ℕ
   keys-count = sym (ap length (keys-order (usages-order T (back-reordered ls)))) ∙ sym (entries-length us) ∙ sym (ap length (g .entries)) ∙ length-entries ks cs 0 (c .keys)
 
   -- 18 at line 1,000,001
-  pub line-18 : 1000000 ≤ c .lines → Good T (ls ++ (l ∷ [])) (stopped c 18) ks cs
-  unfolding Good stopped billOf mostLines mostKeys
-  line-18 h = inr (record { number = omega arith; bill = λ ms. by ms })
+  pub line-18 : 1000000 ≤ c .lines → Good T (ls ++ (l ∷ [])) (only 18 0 0) ks cs
+  unfolding Good only billOf mostLines mostKeys
+  line-18 h = inr (record { number = omega arith; alone = refl; bill = λ ms. by ms })
     where
       by : (ms : List Bytes) → billOf T ((ls ++ (l ∷ [])) ++ ms) ≡ none-made 18
       by ms =
@@ -137,6 +137,8 @@ module _ (T : Tables) (ls : List Bytes) (c : Counts) (ks : Bytes) (cs : List ℕ
   unfolding Good oneMore usages accepted refusing more
   line-refused h e = inl (record {
     number = g .number;
+    table = g .table;
+    place = g .place;
     lines = omega (arith, g .lines, last-length ls l);
     most-lines = omega (arith, h);
     refused = (let z : c .refused + 1 ≡ suc (refusals T ls) = omega (arith, g .refused) in z) ∙ sym (refusals-last T ls l ∙ ap (λ (o : Option Usage). more (refusing o) (refusals T ls)) e);
@@ -154,6 +156,8 @@ module _ (T : Tables) (ls : List Bytes) (c : Counts) (ks : Bytes) (cs : List ℕ
     unfolding Good oneMore refusing more
     line-added h k = inl (record {
       number = g .number;
+      table = g .table;
+      place = g .place;
       lines = omega (arith, g .lines, last-length ls l);
       most-lines = omega (arith, h);
       refused = g .refused ∙ sym (refusals-last T ls l ∙ ap (λ (o : Option Usage). more (refusing o) (refusals T ls)) e);
@@ -162,9 +166,9 @@ module _ (T : Tables) (ls : List Bytes) (c : Counts) (ks : Bytes) (cs : List ℕ
     })
 
     -- 17 at the 513th key
-    pub line-17 : c .lines < 1000000 → 512 < r → Good T (ls ++ (l ∷ [])) (stopped c 17) ks′ cs′
-    unfolding Good stopped billOf mostLines mostKeys
-    line-17 h k = inr (record { number = omega arith; bill = λ ms. by ms })
+    pub line-17 : c .lines < 1000000 → 512 < r → Good T (ls ++ (l ∷ [])) (only 17 0 0) ks′ cs′
+    unfolding Good only billOf mostLines mostKeys
+    line-17 h k = inr (record { number = omega arith; alone = refl; bill = λ ms. by ms })
       where
         by : (ms : List Bytes) → billOf T ((ls ++ (l ∷ [])) ++ ms) ≡ none-made 17
         by ms =
@@ -177,9 +181,9 @@ module _ (T : Tables) (ls : List Bytes) (c : Counts) (ks : Bytes) (cs : List ℕ
             rw (lt-ltb 512 (length (keysOf (usages T (take 1000000 (ns ++ ms))))) (omega (arith, n, m, q, k)))
 
 -- the counts stay bounded
-pub bounded-stopped : (c : Counts) (n : ℕ) → Bounded c → Bounded (stopped c n)
-unfolding stopped
-bounded-stopped c n b = record { keys = b .keys; lines = b .lines; refused = b .refused }
+pub bounded-only : (r : Counts) (n t p : ℕ) → r ≡ only n t p → Bounded r
+unfolding only
+bounded-only r n t p e = subst Bounded (sym e) (record { keys = omega arith; lines = omega arith; refused = omega arith })
 
 pub bounded-more : (c : Counts) (k r : ℕ) → Bounded c → c .lines < 1000000 → k ≤ 512 → r ≤ c .refused + 1 → Bounded (oneMore c k r)
 unfolding oneMore
@@ -197,7 +201,7 @@ said-none m n out o e h = sym e ∙ ap (λ (k : ℕ). usedBy k n out) h
 
 -- the same, of the code's results
 module _ (T : Tables) (ls : List Bytes) (c : Counts) (ks : Bytes) (cs : List ℕ) (l : Bytes) (g : Going T ls c ks cs) (r : Counts) where
-  pub at-18 : r ≡ stopped c 18 → 1000000 ≤ c .lines → Good T (ls ++ (l ∷ [])) r ks cs
+  pub at-18 : r ≡ only 18 0 0 → 1000000 ≤ c .lines → Good T (ls ++ (l ∷ [])) r ks cs
   at-18 e h = subst (λ (q : Counts). Good T (ls ++ (l ∷ [])) q ks cs) (sym e) (line-18 T ls c ks cs g l h)
 
   pub at-refused : (u : Used) (out : Bytes) → r ≡ oneMore c (c .keys) (c .refused + 1) → c .lines < 1000000 → usedIs u out ≡ usage T l → u .member ≡ 0 → Good T (ls ++ (l ∷ [])) r ks cs
@@ -217,14 +221,11 @@ module _ (T : Tables) (ls : List Bytes) (c : Counts) (ks : Bytes) (cs : List ℕ
     unfolding used
     it-is = a (going-up T ls c ks cs g l) (going-few T ls c ks cs g l h)
 
-    pub at-17 : r ≡ stopped c 17 → 512 < n → Good T (ls ++ (l ∷ [])) r ks′ cs′
+    pub at-17 : r ≡ only 17 0 0 → 512 < n → Good T (ls ++ (l ∷ [])) r ks′ cs′
     at-17 e k = subst (λ (q : Counts). Good T (ls ++ (l ∷ [])) q ks′ cs′) (sym e) (line-17 T ls c ks cs g l used ks′ cs′ n use-it it-is h k)
 
     pub at-added : r ≡ oneMore c n (c .refused) → n ≤ 512 → Good T (ls ++ (l ∷ [])) r ks′ cs′
     at-added e k = subst (λ (q : Counts). Good T (ls ++ (l ∷ [])) q ks′ cs′) (sym e) (line-added T ls c ks cs g l used ks′ cs′ n use-it it-is h k)
-
-pub stopped-bounded : (c r : Counts) (n : ℕ) → r ≡ stopped c n → Bounded c → Bounded r
-stopped-bounded c r n e b = subst Bounded (sym e) (bounded-stopped c n b)
 
 pub more-bounded : (c r : Counts) (k m : ℕ) → r ≡ oneMore c k m → Bounded c → c .lines < 1000000 → k ≤ 512 → m ≤ c .refused + 1 → Bounded r
 more-bounded c r k m e b h p q = subst Bounded (sym e) (bounded-more c k m b h p q)

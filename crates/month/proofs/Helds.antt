@@ -4,9 +4,8 @@ use mathlib.Core.Bool.{true, false}
 use mathlib.Core.Logic.{inl}
 use mathlib.Core.List.{List, [], _++_}
 use mathlib.Core.Option.{Option, none, some, Option·none-ne-some}
-use Prim.Native.Nat.{ℕ, _≤_}
+use Prim.Native.Nat.{ℕ}
 use native.Mathlib.Omega.{arith}
-use lib.ListN.{length}
 use Rattle.standard.specs.Delivery.{Bytes}
 use Rattle.standard.specs.Table.{TableFault, tablesOf, check}
 use Rattle.standard.proofs.Numbers.{TableWithin, check-within}
@@ -19,30 +18,28 @@ use Rattle.ledger.specs.Places.{entriesFrom}
 use Rattle.ledger.specs.Ledger.{entriesOf}
 use Rattle.ledger.specs.Up.{Sized}
 use Rattle.month.specs.declared.Counts.{Counts}
-use Rattle.month.specs.State.{Bounded, Going, Good as GoodBill}
-use Rattle.month.specs.Held.{Names, judgedBy, Held}
+use Rattle.month.specs.State.{Bounded, only, Going, Good as GoodBill}
+use Rattle.month.specs.Held.{faulted, judgedBy, Held}
 use Rattle.month.proofs.Taking.{going-on, stays}
+use Rattle.month.proofs.Goings.{bounded-only}
 
 fault-eq : {f g : TableFault} → _≡_ {A = Option TableFault} (some f) (some g) → f ≡ g
 fault-eq e = cc
 
-abbrev zeros : Counts
-zeros = record { number = 0; table = 0; place = 0; keys = 0; lines = 0; refused = 0 }
-
 -- no lines yet
-pub held-start : (A L ks : Bytes) (cs : List ℕ) (v : Verdict) (r : Counts) → verdictIs v ≡ check true false A L [] → r ≡ judgedBy v zeros → Sized ks cs → Held A L [] r ks cs
-unfolding judgedBy GoodBill refusals usages entriesFrom entriesOf keysOf sortBy
+pub held-start : (A L ks : Bytes) (cs : List ℕ) (v : Verdict) (r : Counts) → verdictIs v ≡ check true false A L [] → r ≡ judgedBy v → Sized ks cs → Held A L [] r ks cs
+unfolding judgedBy only faulted GoodBill refusals usages entriesFrom entriesOf keysOf sortBy
 held-start A L ks cs Good r e f s = subst (λ (c : Counts). Held A L [] c ks cs) (sym f) (record {
   sized = s;
-  bounded = record { keys = omega arith; lines = omega arith; refused = omega arith };
-  good = λ _. inl (record { number = refl; lines = refl; most-lines = omega arith; refused = refl; most-keys = omega arith; entries = refl });
+  bounded = bounded-only (only 0 0 0) 0 0 0 refl;
+  good = λ _. inl (record { number = refl; table = refl; place = refl; lines = refl; most-lines = omega arith; refused = refl; most-keys = omega arith; entries = refl });
   bad = λ g h. absurd (Option·none-ne-some g (e ∙ h));
 })
 held-start A L ks cs (Bad n t p) r e f s = subst (λ (c : Counts). Held A L [] c ks cs) (sym f) (record {
   sized = s;
-  bounded = record { keys = omega arith; lines = omega arith; refused = omega arith };
+  bounded = bounded-only (only n t p) n t p refl;
   good = λ h. absurd (Option·none-ne-some _ (sym h ∙ sym e));
-  bad = λ g h. let q = fault-eq (e ∙ h) in record { number = ap (λ (x : TableFault). x .fault .number) q; table = ap (λ (x : TableFault). x .table) q; place = ap (λ (x : TableFault). x .fault .place) q };
+  bad = λ g h. ap faulted (fault-eq (e ∙ h));
 })
 
 module _ (A L : Bytes) (ls ms : List Bytes) (c : Counts) (ks : Bytes) (cs : List ℕ) (h : Held A L ls c ks cs) where
@@ -62,9 +59,9 @@ module _ (A L : Bytes) (ls ms : List Bytes) (c : Counts) (ks : Bytes) (cs : List
 
   -- bad tables have a number
   pub held-bad : {n t p : ℕ} (v : Verdict) → verdictIs v ≡ check true false A L [] → v ≡ Bad n t p → c .number ≡ 0 → ⊥
-  unfolding TableWithin
+  unfolding TableWithin faulted only
   held-bad {n} {t} {p} v e f z =
       let g = sym (ap verdictIs f) ∙ e in
       let w = subst TableWithin (sym g) (check-within true false A L []) in
-      let q = h .bad _ (sym g) .number in
+      let q = ap (λ (x : Counts). x .number) (h .bad _ (sym g)) in
       omega (arith, w .0, q, z)

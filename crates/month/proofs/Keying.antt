@@ -1,9 +1,9 @@
 -- The key in an output is the key of the identifier. Assumes nothing.
 use mathlib.Core.Path.{_≡_, refl, sym, ap, _∙_, subst}
-use mathlib.Core.Bool.{Bool, true, false, cond}
-use mathlib.Core.List.{List, [], _∷_, _++_, append-assoc}
-use mathlib.Core.Option.{Option, none, some}
-use Prim.Native.Nat.{ℕ, zero, suc, _+_, _-_, _≤_, _<_}
+use mathlib.Core.Bool.{true, false}
+use mathlib.Core.List.{[], _∷_, _++_, append-assoc}
+use mathlib.Core.Option.{none, some}
+use Prim.Native.Nat.{ℕ, suc, _+_, _-_, _≤_, _<_}
 use native.Mathlib.Omega.{arith}
 use lib.Dec.{leb}
 use lib.ListN.{length, take, drop, length-append}
@@ -15,14 +15,14 @@ use Rattle.standard.specs.Delivery.{Bytes, Made, result, refusal, form, Given, 
 use Rattle.standard.specs.Grammar.{isLanguage, languageSize, sizeOf}
 use Rattle.standard.specs.Tag.{Tag}
 use Rattle.standard.specs.Calls.{minimise}
-use Rattle.standard.specs.Identifier.{Three, Identifier, Tables, Answer, done, refused, canonical, canonicalForm, maximised, minimised, minimalThree, withThree, size}
+use Rattle.standard.specs.Identifier.{Three, Identifier, Tables, Answer, done, refused, canonical, canonicalForm, minimised, minimalThree, withThree, size}
 use Rattle.standard.specs.Reading.{Read, good, bad, read, print}
-use Rattle.standard.specs.Table.{tablesOf, check, printThree}
+use Rattle.standard.specs.Table.{tablesOf, check}
 use Rattle.standard.specs.Make.{operate, made, makeOf, make, whole}
 use Rattle.standard.proofs.Sound.{read-raw}
 use Rattle.standard.proofs.Numbers.{Proper, whole-proper, refusal-not}
 use Rattle.standard.proofs.Operations.{bounded-done, maximised-form, maximised-maximal, minimised-done, shrunk, shrunk-canonical}
-use Rattle.standard.proofs.Round.{Printable, length-print}
+use Rattle.standard.proofs.Round.{length-print}
 use Rattle.standard.proofs.Demand.{printable-of}
 use Rattle.standard.proofs.Table.{Passed, passed, good-tables, shaped-tables}
 use Rattle.standard.proofs.Whole.{narrow-likely}
@@ -34,15 +34,15 @@ use Rattle.canonical.specs.Form.{outcomeOf, outcome}
 use Rattle.likely.specs.declared.forms.Outcome.{Outcome}
 use Rattle.likely.specs.declared.forms.Outcome.the-variants.{Done, NoRow, Long, Short}
 use Rattle.likely.specs.Forms.{givenBy, bytesOf, madeParts, ReadyFor}
-use Rattle.likely.specs.Parts.{Parts, partsOf, joinedParts, ledPart}
+use Rattle.likely.specs.Parts.{Parts, partsOf, joinedParts}
 use Rattle.likely.specs.Slices.{Slices}
 use Rattle.likely.specs.Both.{operationOf}
 use Rattle.likely.specs.Answered.{givenAnswered}
-use Rattle.likely.specs.declared.tested.Answered.the-variants.{Made as MadeOutcome}
 use Rattle.likely.proofs.Checked.{whole-good, whole-minimised}
 use Rattle.likely.proofs.Laws.{print-parts}
 use Rattle.likely.proofs.Makes.{restOf, print-rest, shaped-short}
-use Rattle.likely.proofs.Formed.{Canonicalised, refusal-form, refused-made, made-answer, canonicalises, rest-length}
+use Rattle.canonical.proofs.Canonicalised.{Canonicalised, refusal-form}
+use Rattle.likely.proofs.Formed.{refused-made, made-answer, canonicalises, rest-length}
 use Rattle.billing.specs.Bill.{keyOfAnswer, keyOfRead, keyOf}
 use Rattle.month.specs.Keys.{keyIs, withoutRest}
 

@@ -7,3 +7,4 @@ pub mod Texts
 pub mod Bills
 pub mod Helds
 pub mod Cuts
+pub mod Blocks

@@ -1,7 +1,7 @@
 -- Laws of a usage line's shape. Assumes nothing.
 use mathlib.Core.Path.{_≡_, refl, sym, ap, _∙_}
 use mathlib.Core.Bool.{Bool, true, false, cond, _&&_}
-use mathlib.Core.List.{List, [], _∷_}
+use mathlib.Core.List.{[], _∷_}
 use mathlib.Core.Option.{Option, none, some}
 use Prim.Native.Nat.{ℕ, zero, suc, _+_, _-_, _*_, _≤_, _<_}
 use native.Mathlib.Omega.{arith}
@@ -11,7 +11,6 @@ use borrow.Author.Tests.{le-leb, lt-leb}
 use Rattle.standard.specs.Delivery.{Bytes}
 use Rattle.table.specs.Lines.{endOf}
 use Rattle.billing.specs.Bill.{leading, memberOf, beforeTab, afterTab}
-use Rattle.month.specs.declared.shape.Shape.{Shape}
 use Rattle.month.specs.Shapes.{orZero, memberIf, Shaped}
 
 and-false : (a b : Bool) → b ≡ false → (a && b) ≡ false

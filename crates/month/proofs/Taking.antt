@@ -10,10 +10,10 @@ use Rattle.standard.specs.Delivery.{Bytes}
 use Rattle.table.specs.Lines.{lines, endOf}
 use Rattle.subtag.proofs.Walk.{le-or-lt}
 use Rattle.lines.specs.Pieces.{Next}
-use Rattle.lines.proofs.Pieces.{Line, line}
-use Rattle.billing.specs.Bill.{Bill, none-made, billOf}
+use Rattle.lines.proofs.Pieces.{line}
+use Rattle.billing.specs.Bill.{billOf}
 use Rattle.month.specs.declared.Counts.{Counts}
-use Rattle.month.specs.State.{Bounded, Going, Stopped, Good}
+use Rattle.month.specs.State.{Going, Stopped, Good}
 
 -- after the lines before a place: they and those from there on are the piece's
 pub record Taken (T : Tables) (x : Bytes) (at : ℕ) (ls : List Bytes) (c : Counts) (ks : Bytes) (cs : List ℕ) : Type 0 where
@@ -30,7 +30,7 @@ going-on T ls c ks cs e (inr s) = absurd (let h = s .number in omega (arith, e, 
 pub stays : (T : Tables) (ls ms : List Bytes) (c : Counts) (ks : Bytes) (cs : List ℕ) → (c .number ≡ 0 → ⊥) → Good T ls c ks cs → Good T (ls ++ ms) c ks cs
 unfolding Good
 stays T ls ms c ks cs n (inl g) = absurd (n (g .number))
-stays T ls ms c ks cs n (inr s) = inr (record { number = s .number; bill = λ ns. ap (billOf T) (append-assoc ls ms ns) ∙ s .bill (ms ++ ns) })
+stays T ls ms c ks cs n (inr s) = inr (record { number = s .number; alone = s .alone; bill = λ ns. ap (billOf T) (append-assoc ls ms ns) ∙ s .bill (ms ++ ns) })
 
 module _ (T : Tables) (x : Bytes) (ls : List Bytes) where
   pub taken-none : (c : Counts) (ks : Bytes) (cs : List ℕ) → Going T ls c ks cs → Taken T x 0 ls c ks cs

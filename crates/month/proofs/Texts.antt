@@ -1,7 +1,7 @@
 -- The text of entries, row by row. Assumes nothing.
-use mathlib.Core.Path.{_≡_, refl, sym, ap, ap₂, _∙_}
+use mathlib.Core.Path.{_≡_, refl, sym, ap, _∙_}
 use mathlib.Core.List.{List, [], _∷_, _++_, append-assoc, append-nil}
-use Prim.Native.Nat.{ℕ, zero, suc, _+_, _-_, _*_, _≤_, _<_}
+use Prim.Native.Nat.{ℕ, zero, suc, _+_, _-_, _*_, _≤_}
 use native.Mathlib.Omega.{arith}
 use native.Mathlib.Numerals.{add-one}
 use lib.Count.{ones}
@@ -10,7 +10,6 @@ use lib.Seq.{sets}
 use Rattle.standard.specs.Delivery.{Bytes}
 use Rattle.subtag.proofs.Stores.{wrote-two}
 use Rattle.fields.specs.Fields.{decimal, field}
-use Rattle.ledger.specs.Entries.{Entry}
 use Rattle.fields.proofs.Laws.{field-length}
 use Rattle.ledger.proofs.Places.{key-part}
 use Rattle.ledger.specs.Places.{bytesAt, atMost31, textAt, entryAt, entriesFrom}

@@ -1,19 +1,18 @@
 -- What a usage line says is its usage. Assumes nothing.
 use mathlib.Core.Path.{_≡_, refl, sym, ap, ap₂, _∙_}
 use mathlib.Core.Bool.{Bool, true, false, cond, _&&_}
-use mathlib.Core.List.{List, [], _∷_}
+use mathlib.Core.List.{[], _∷_}
 use mathlib.Core.Option.{Option, none, some, Option·none-ne-some}
-use Prim.Native.Nat.{ℕ, zero, suc, _+_, _-_, _*_, _≤_, _<_}
+use Prim.Native.Nat.{ℕ, zero, suc, _+_, _-_, _*_, _≤_}
 use native.Mathlib.Omega.{arith}
 use lib.Dec.{leb}
 use lib.ListN.{length, take, drop, length-drop}
 use lib.Seq.{take-all}
 use borrow.Author.Tests.{leb-true}
-use Rattle.standard.specs.Tag.{Tag}
 use Rattle.standard.specs.Identifier.{Tables}
 use Rattle.standard.specs.Delivery.{Bytes}
 use Rattle.standard.proofs.Bytes.{and-true}
-use Rattle.billing.specs.Bill.{Usage, leading, memberOf, beforeTab, afterTab, keyOf, usageBy, usageAt, usage}
+use Rattle.billing.specs.Bill.{leading, memberOf, beforeTab, afterTab, keyOf, usageBy, usageAt, usage}
 use Rattle.month.specs.declared.shape.Shape.{Shape}
 use Rattle.month.specs.Shapes.{orZero, memberIf, Shaped}
 use Rattle.month.specs.Keys.{keyIs}

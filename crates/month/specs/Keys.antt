@@ -1,5 +1,4 @@
 -- The key of an identifier as bytes at the front of an output. Assumes nothing.
-use mathlib.Core.List.{List}
 use mathlib.Core.Option.{Option, none, some}
 use Prim.Native.Nat.{ℕ, zero, suc, _-_}
 use lib.ListN.{take}

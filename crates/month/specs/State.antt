@@ -1,17 +1,15 @@
 -- A bill that is being made: what stands in the arrays and the counts after some lines. Assumes nothing.
 use mathlib.Core.Path.{_≡_}
 use mathlib.Core.Logic.{_⊎_}
-use mathlib.Core.List.{List, [], _∷_, _++_, reverseAux}
+use mathlib.Core.List.{List, [], _++_, reverseAux}
 use mathlib.Core.Option.{Option, none, some}
-use Prim.Native.Nat.{ℕ, zero, suc, _+_, _≤_, _<_}
+use Prim.Native.Nat.{ℕ, zero, suc, _+_, _≤_}
 use lib.ListN.{length, take}
 use Rattle.standard.specs.Identifier.{Tables}
 use Rattle.standard.specs.Delivery.{Bytes}
-use Rattle.standard.specs.Table.{TableFault, tablesOf, check}
 use Rattle.billing.specs.Bill.{Usage, usage, usages, refusals, none-made, billOf}
 use Rattle.ledger.specs.Places.{entriesFrom}
 use Rattle.ledger.specs.Ledger.{entriesOf}
-use Rattle.ledger.specs.Up.{Sized}
 use Rattle.month.specs.declared.Counts.{Counts}
 use Rattle.month.specs.declared.line.Used.{Used}
 
@@ -29,9 +27,9 @@ pub record Bounded (c : Counts) : Type 0 where
   pub lines : c .lines ≤ 1000000
   pub refused : c .refused ≤ c .lines
 
--- the counts of a refused bill; and after one line more
-unfoldable pub stopped : Counts → ℕ → Counts
-stopped c n = record { number = n; table = 0; place = 0; keys = c .keys; lines = c .lines; refused = c .refused }
+-- the counts of a refusal, all 0 but its number, table and place; with number 0 those of no lines; and after one line more
+unfoldable pub only : ℕ → ℕ → ℕ → Counts
+only n t p = record { number = n; table = t; place = p; keys = 0; lines = 0; refused = 0 }
 
 unfoldable pub oneMore : Counts → ℕ → ℕ → Counts
 oneMore c keys refused = record { number = c .number; table = c .table; place = c .place; keys = keys; lines = c .lines + 1; refused = refused }
@@ -39,6 +37,8 @@ oneMore c keys refused = record { number = c .number; table = c .table; place = 
 -- not refused so far: the entries of all lines
 pub record Going (T : Tables) (ls : List Bytes) (c : Counts) (ks : Bytes) (cs : List ℕ) : Type 0 where
   pub number : c .number ≡ 0
+  pub table : c .table ≡ 0
+  pub place : c .place ≡ 0
   pub lines : c .lines ≡ length ls
   pub most-lines : c .lines ≤ 1000000
   pub refused : c .refused ≡ refusals T ls
@@ -48,6 +48,7 @@ pub record Going (T : Tables) (ls : List Bytes) (c : Counts) (ks : Bytes) (cs : 
 -- refused for good, with 17 or 18, whatever comes
 pub record Stopped (T : Tables) (ls : List Bytes) (c : Counts) : Type 0 where
   pub number : 15 ≤ c .number
+  pub alone : c ≡ only (c .number) 0 0
   pub bill : (ms : List Bytes) → billOf T (ls ++ ms) ≡ none-made (c .number)
 
 unfoldable pub Good : Tables → List Bytes → Counts → Bytes → List ℕ → Type 0

@@ -1,10 +1,11 @@
 -- The text of a bill. Assumes nothing.
-use mathlib.Core.Bool.{true, false, cond}
+use mathlib.Core.Bool.{true, false, cond, _&&_}
 use mathlib.Core.List.{List, [], _∷_, _++_}
 use mathlib.Core.Option.{Option, none, some}
 use Prim.Native.Nat.{ℕ}
 use lib.Count.{ones}
-use lib.Dec.{eqb, ltb}
+use lib.Dec.{eqb, leb, ltb}
+use lib.ListN.{length}
 use Rattle.standard.specs.Delivery.{Bytes}
 use Rattle.standard.specs.Table.{TableFault, tablesOf, check}
 use Rattle.fields.specs.Fields.{decimal, field, tableText}
@@ -55,3 +56,7 @@ unfoldable pub countsText : Counts → Bytes → List ℕ → Bytes
 countsText c ks cs =
     cond (eqb (c .number) 0) (header ++ (entriesText (entriesFrom ks cs 0 (c .keys)) ++ lastText (c .refused)))
     (cond (ltb (c .number) 15) (tableText (c .number) (c .table) (c .place)) (field (decimal (c .number)) 10))
+
+-- what is written into an output of so many bytes: nothing where it is too short, or where counts and arrays are no bill's
+unfoldable pub writtenText : Counts → Bytes → List ℕ → ℕ → Bytes
+writtenText c ks cs room = cond (leb 65536 room && (eqb (length ks) 16384 && (eqb (length cs) 1024 && leb (c .keys) 512))) (countsText c ks cs) []

@@ -1,6 +1,7 @@
 // One usage line, and what it changes of a bill.
 use crate::Counts;
 use crate::key::key_of;
+use crate::only;
 use crate::shape::shape_of;
 ghost use mathlib.Core.Path.{_≡_};
 ghost use mathlib.Core.List.{List, [], _∷_, _++_};
@@ -13,7 +14,7 @@ ghost use Rattle.likely.specs.Both.{TestedBoth};
 ghost use Rattle.billing.specs.Bill.{usage};
 ghost use Rattle.ledger.specs.Places.{entriesFrom};
 ghost use Rattle.ledger.specs.Up.{Sized, Up, Few, Added};
-ghost use Rattle.month.specs.State.{usedIs, Bounded, stopped, oneMore, Going, Good};
+ghost use Rattle.month.specs.State.{usedIs, Bounded, oneMore, Going, Good};
 
 // A member and the length of the key, or member 0 for a refused line.
 pub struct Used {
@@ -51,20 +52,6 @@ fn usage_of(
         return Used { member: 0, len: 0 };
     }
     Used { member, len }
-}
-
-// The counts of a bill that is refused.
-fn stop(c: Counts, number: u8) -> Counts
-    ensures { λ r. ⌜ r ≡ stopped c number ⌝ }
-{
-    Counts {
-        number,
-        table: 0,
-        place: 0,
-        keys: c.keys,
-        lines: c.lines,
-        refused: c.refused,
-    }
 }
 
 // The counts after a refused line, or with keys after an accepted one.
@@ -117,7 +104,7 @@ pub fn take_line(
         → Good (tablesOf (now (aliases .entry)) (now (likely .entry)) []) (ls ++ (now (line .entry) ∷ [])) r (now (keys .exit)) (now (counts .exit))) ⌝ }
 {
     if 1000000 <= c.lines {
-        return stop(c, 18);
+        return only(18, 0, 0);
     }
     let u = usage_of(line, aliases, alias_hints, likely, likely_hints, out);
     let member = u.member;
@@ -127,7 +114,7 @@ pub fn take_line(
     }
     let n = add_used(keys, counts, c.keys, member, len, out);
     if 512 < n {
-        return stop(c, 17);
+        return only(17, 0, 0);
     }
     counted(c, n, c.refused)
 }

@@ -3,7 +3,6 @@ use crate::Counts;
 use crate::line::take_line;
 use lines::next_line;
 use table::end_of;
-ghost use mathlib.Core.Path.{_≡_};
 ghost use mathlib.Core.List.{List, [], _++_};
 ghost use Prim.Native.Nat.{_≤_};
 ghost use lib.ListN.{length};

@@ -4,17 +4,15 @@ use fields::put;
 use fields::put_number;
 use fields::put_table;
 ghost use mathlib.Core.Path.{_≡_};
-ghost use mathlib.Core.List.{List, _++_};
+ghost use mathlib.Core.List.{_++_};
 ghost use Prim.Native.Nat.{_+_, _≤_, _<_};
 ghost use lib.Count.{ones};
 ghost use lib.ListN.{length};
 ghost use lib.Seq.{sets};
-ghost use Rattle.standard.specs.Delivery.{Bytes};
 ghost use Rattle.fields.specs.Fields.{field};
 ghost use Rattle.ledger.specs.Places.{textAt, entryAt, entriesFrom};
 ghost use Rattle.ledger.specs.Up.{Sized};
-ghost use Rattle.month.specs.Text.{header, lastText, entryText, entriesText, monthText, countsText};
-ghost use Rattle.month.specs.Held.{Held};
+ghost use Rattle.month.specs.Text.{header, lastText, entryText, entriesText, countsText, writtenText};
 
 // How many members have a mark.
 fn members_of(marks: u64) -> usize
@@ -103,11 +101,12 @@ fn put_text(c: Counts, keys: &[u8], counts: &[u64], out: &mut [u8]) -> usize
 }
 
 // Writes the text of a bill at the front of out, which needs 65,536 bytes, and gives its length. Where it has fewer, or
-// the arrays are not a bill's, it writes nothing and gives 0.
+// the arrays are not a bill's, it writes nothing and gives 0. Of a bill that holds lines this is their text (`held-writes`
+// in proofs/Bills.antt).
 pub fn write(c: Counts, keys: &[u8], counts: &[u64], out: &mut [u8]) -> usize
-    ensures { λ r. ⌜ (r ≤ length (now (out .entry))) × (length (now (out .entry)) < 65536 → (r ≡ 0) × (now (out .exit) ≡ now (out .entry)))
-        × ((A L : Bytes) → (ls : List Bytes) → Held A L ls c (now (keys .entry)) (now (counts .entry)) → 65536 ≤ length (now (out .entry))
-        → (r ≡ length (monthText A L ls)) × (now (out .exit) ≡ sets (now (out .entry)) 0 (monthText A L ls))) ⌝ }
+    ensures { λ r. ⌜ (r ≡ length (writtenText c (now (keys .entry)) (now (counts .entry)) (length (now (out .entry)))))
+        × (now (out .exit) ≡ sets (now (out .entry)) 0 (writtenText c (now (keys .entry)) (now (counts .entry)) (length (now (out .entry)))))
+        × (r ≤ length (now (out .entry))) ⌝ }
 {
     if out.len() < 65536 {
         return 0;

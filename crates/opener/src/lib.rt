@@ -1,8 +1,10 @@
 // Tables opened by the programs, in the current folder. A file that can't be opened counts as zero bytes.
+use fields::Text;
 use fields::table_line;
 use libc::STDOUT_FILENO;
 ghost use mathlib.Core.Path.{_≡_};
 ghost use lib.ListN.{length};
+ghost use Rattle.fields.specs.Fields.{tableText, textIs};
 ghost use Rattle.io.specs.Counts.{Counts};
 
 // One byte more than a table may have, so that no table is cut to one that passes.
@@ -25,10 +27,13 @@ pub fn load(path: &[u8], buffer: &mut [u8]) -> usize
     n
 }
 
-// Prints the line of the tables' check: `table`, number, table, place.
-pub fn print_table(number: u8, table: u8, place: usize) {
+// Prints the line of the tables' check: `table`, number, table, place; and answers what it printed.
+pub fn print_table(number: u8, table: u8, place: usize) -> Text
+    ensures { λ r. ⌜ textIs r ≡ tableText number table place ⌝ }
+{
     let t = table_line(number, table, place);
     let len = t.len;
     let bytes = t.bytes;
     io::write_all(STDOUT_FILENO, &bytes[..len]);
+    t
 }

@@ -14,7 +14,11 @@ fn main() {
     let p_len = load(b"parents.tsv", &mut p);
     let v = verdict::check(&a[..a_len], &l[..l_len], &p[..p_len]);
     match v {
-        Verdict::Good => print_table(0, 0, 0),
-        Verdict::Bad(number, table, place) => print_table(number, table, place),
+        Verdict::Good => {
+            print_table(0, 0, 0);
+        }
+        Verdict::Bad(number, table, place) => {
+            print_table(number, table, place);
+        }
     }
 }

@@ -15,11 +15,11 @@ read-requires c κs = search needs
 
 put-asked-requires : tie.Need-put-asked-requires
 unfolding reportIs
-put-asked-requires c κs = let r = c .before .read in let x = c .before .before .before .before .args .line .now in let l = bounds.asked-length (r .result) x (r .ensures) in let f = field-length (askedOf (r .result .number) x) 9 in (omega (arith, l), omega arith)
+put-asked-requires c κs = let r = c .before .read in let x = c .before .before .before .before .args .line .now in let l = bounds.asked-length (r .result) x (r .ensures .0) in let f = field-length (askedOf (r .result .number) x) 9 in (omega (arith, l), omega arith)
 
 put-report-requires : tie.Need-put-report-requires
 unfolding reportIs
-put-report-requires c κs = let r = c .before .before .before .before .before .read in let x = c .before .before .before .before .before .before .before .before .args .line .now in let l = bounds.asked-length (r .result) x (r .ensures) in omega (arith, c .before .before .before .put-asked .ensures .0)
+put-report-requires c κs = let r = c .before .before .before .before .before .read in let x = c .before .before .before .before .before .before .before .before .args .line .now in let l = bounds.asked-length (r .result) x (r .ensures .0) in omega (arith, c .before .before .before .put-asked .ensures .0)
 
 same-length : tie.Need-same-length
 same-length c = search needs
@@ -30,8 +30,8 @@ returns c =
     let r = c .before .before .before .before .before .before .before .before .read in
     let p = c .before .before .before .before .before .before .put-asked in
     let q = c .before .before .put-report in
-    let l = bounds.asked-length (r .result) (a .line .now) (r .ensures) in
-    let w = wrote-two (a .out .now) (p .last .1 .1 .0) (q .last .1 .0) (a .at) (p .result) (q .result) (field (askedOf (r .result .number) (a .line .now)) 9) (fieldsText (reportIs (r .result))) (rowOf (a .line .now)) (bounds.row-text (r .result) (a .line .now) (r .ensures)) (p .ensures .0) (p .ensures .1) (q .ensures .0) (q .ensures .1) in
+    let l = bounds.asked-length (r .result) (a .line .now) (r .ensures .0) in
+    let w = wrote-two (a .out .now) (p .last .1 .1 .0) (q .last .1 .0) (a .at) (p .result) (q .result) (field (askedOf (r .result .number) (a .line .now)) 9) (fieldsText (reportIs (r .result))) (rowOf (a .line .now)) (bounds.row-text (r .result) (a .line .now) (r .ensures .0)) (p .ensures .0) (p .ensures .1) (q .ensures .0) (q .ensures .1) in
     (w .0, w .1, omega (arith, p .ensures .0, q .ensures .2))
 
 pub put-row-spec : {M : Type 1} → statement M

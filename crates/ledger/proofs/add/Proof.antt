@@ -1,47 +1,33 @@
 -- `ledger::add` meets its contract. Assumes nothing.
-use mathlib.Core.Path.{sym, ap, _∙_}
+use mathlib.Core.Path.{refl, sym, ap, _∙_}
 use native.Mathlib.Omega.{arith}
 use Rattle.ledger.specs.Entries.{markOf}
 use Rattle.ledger.proofs.Changes.{usage-hit, usage-full, usage-more}
 use borrow.Author.Needs.{needs}
 use Rattle.ledger.proofs.add.Statement.{statement}
 use Rattle.ledger.proofs.add.Tie as tie
-use Rattle.ledger.proofs.add.Reads as reads
-use Rattle.ledger.proofs.add.Lts as lts
-use Rattle.ledger.proofs.change.Reads as change-reads
-use Rattle.ledger.proofs.has_key.Reads as has-key-reads
-use Rattle.ledger.proofs.insert.Reads as insert-reads
-use Rattle.ledger.proofs.mark_of.Reads as mark-of-reads
-use Rattle.ledger.proofs.place_of.Reads as place-of-reads
 
--- src/lib.rt:175:9
 mark-of-requires : tie.Need-mark-of-requires
 mark-of-requires c κs = search needs
 
--- src/lib.rt:176:9
 place-of-requires : tie.Need-place-of-requires
 place-of-requires c κs = search needs
 
--- src/lib.rt:177:8
 has-key-requires : tie.Need-has-key-requires
 has-key-requires c κs = search needs
 
--- src/lib.rt:178:9
 change-requires : tie.Need-change-requires
 change-requires c κs =
     let h = c .before .before in
     let a = h .before .before .before .before .before .before .before .before in
     (omega (arith, h .has-key .ensures .1 (c .before .if1 .taken)), a .pre .1 .counts)
 
--- src/lib.rt:179:9
 same-length : tie.Need-same-length
 same-length c = search needs
 
--- src/lib.rt:179:9
 same-length-2 : tie.Need-same-length-2
 same-length-2 c = search needs
 
--- src/lib.rt:179:9
 returns : tie.Need-returns
 returns c =
     let v = c .before .before .change in
@@ -54,17 +40,15 @@ returns c =
           usage-hit u (a .args .key .now) (a .args .keys .now) (a .args .counts .now) (a .args .n) (p .place-of .result) (h .has-key .result) e (p .place-of .ensures .1 (a .args .counts .now) up) (h .has-key .ensures .0 (a .args .counts .now))
           (a .args .keys .now) (v .last .0) (c .before .before .before .before .if1 .taken)
           (v .ensures (a .args .keys .now) (a .args .n) u (p .before .before .mark-of .ensures ∙ ap markOf (sym m)) (h .has-key .ensures .1 (c .before .before .before .before .if1 .taken)) few),
+      λ k. absurd (omega (arith, k, a .pre .0)),
     )
 
--- src/lib.rt:182:16
 add-result : tie.Need-add-result
 add-result c = search needs
 
--- src/lib.rt:182:9
 same-length-3 : tie.Need-same-length-3
 same-length-3 c = search needs
 
--- src/lib.rt:182:9
 returns-2 : tie.Need-returns-2
 returns-2 c =
     let h = c .before .before in
@@ -75,25 +59,21 @@ returns-2 c =
       λ u e m up few.
           usage-full u (a .args .key .now) (a .args .keys .now) (a .args .counts .now) (a .args .n) (p .place-of .result) (h .has-key .result) e (p .place-of .ensures .1 (a .args .counts .now) up) (h .has-key .ensures .0 (a .args .counts .now))
           (c .before .if1 .left) (c .if2 .taken),
+      λ k. (refl, refl),
     )
 
--- src/lib.rt:184:5
 insert-requires : tie.Need-insert-requires
 insert-requires c κs = search needs
 
--- src/lib.rt:185:5
 add-result-2 : tie.Need-add-result-2
 add-result-2 c = search needs
 
--- src/lib.rt:169:1
 same-length-4 : tie.Need-same-length-4
 same-length-4 c = search needs
 
--- src/lib.rt:169:1
 same-length-5 : tie.Need-same-length-5
 same-length-5 c = search needs
 
--- src/lib.rt:169:1
 returns-3 : tie.Need-returns-3
 returns-3 c =
     let v = c .before .before .before .before in
@@ -106,6 +86,7 @@ returns-3 c =
           usage-more u (a .args .key .now) (a .args .keys .now) (a .args .counts .now) (a .args .n) (p .place-of .result) (h .has-key .result) e (p .place-of .ensures .1 (a .args .counts .now) up) (h .has-key .ensures .0 (a .args .counts .now))
           (v .insert .last .0) (v .insert .last .1 .0) (v .before .before .before .before .if1 .left)
           (v .insert .ensures .1 u e (p .before .before .mark-of .ensures ∙ ap markOf (sym m))),
+      λ k. absurd (omega (arith, k, v .before .before .before .if2 .left)),
     )
 
 pub add-spec : {M : Type 1} → statement M

@@ -7,67 +7,50 @@ use Rattle.ledger.proofs.Changes.{changed}
 use borrow.Author.Needs.{needs}
 use Rattle.ledger.proofs.change.Statement.{statement}
 use Rattle.ledger.proofs.change.Tie as tie
-use Rattle.ledger.proofs.change.Reads as reads
-use Rattle.ledger.proofs.change.Lts as lts
-use Rattle.ledger.proofs.more.Reads as more-reads
 
--- src/lib.rt:144:13
 mul-i : tie.Need-mul-i
 mul-i c = search needs
 
--- src/lib.rt:145:17
 mul-counts : tie.Need-mul-counts
 mul-counts c = search needs
 
--- src/lib.rt:145:17
 slice-read-counts : tie.Need-slice-read-counts
 slice-read-counts c = search needs
 
--- src/lib.rt:145:5
 mul-counts-2 : tie.Need-mul-counts-2
 mul-counts-2 c = search needs
 
--- src/lib.rt:145:5
 slice-write-counts : tie.Need-slice-write-counts
 slice-write-counts c = search needs
 
--- src/lib.rt:146:33
 add-more : tie.Need-add-more
 add-more c = search needs
 
--- src/lib.rt:146:26
 mul-more : tie.Need-mul-more
 mul-more c = search needs
 
--- src/lib.rt:146:26
 slice-read-more : tie.Need-slice-read-more
 slice-read-more c =
     let a = c .before .before .before in
     omega (arith, a .pre .1, length-set (a .args .counts .now) (2 * a .args .at) (bitOr (getD (a .args .counts .now) (2 * a .args .at) 0) (a .args .mark)))
 
--- src/lib.rt:146:21
 more-requires : tie.Need-more-requires
 more-requires c κs = search needs
 
--- src/lib.rt:146:12
 add-counts : tie.Need-add-counts
 add-counts c = search needs
 
--- src/lib.rt:146:5
 mul-counts-3 : tie.Need-mul-counts-3
 mul-counts-3 c = search needs
 
--- src/lib.rt:146:5
 slice-write-counts-2 : tie.Need-slice-write-counts-2
 slice-write-counts-2 c =
     let a = c .before .before .before .before in
     omega (arith, a .pre .1, length-set (a .args .counts .now) (2 * a .args .at) (bitOr (getD (a .args .counts .now) (2 * a .args .at) 0) (a .args .mark)))
 
--- src/lib.rt:139:1
 same-length : tie.Need-same-length
 same-length c = search needs
 
--- src/lib.rt:139:1
 returns : tie.Need-returns
 returns c =
     let a = c .before .before .before .before in

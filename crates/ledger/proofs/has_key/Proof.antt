@@ -12,48 +12,34 @@ use Rattle.ledger.proofs.Changes.{hit-in, hit-out}
 use borrow.Author.Needs.{needs}
 use Rattle.ledger.proofs.has_key.Statement.{statement}
 use Rattle.ledger.proofs.has_key.Tie as tie
-use Rattle.ledger.proofs.has_key.Reads as reads
-use Rattle.ledger.proofs.has_key.Lts as lts
-use Rattle.ledger.proofs.key_len.Reads as key-len-reads
-use Rattle.subtag.proofs.same.Reads as same-reads
 
--- src/lib.rt:121:9
 returns : tie.Need-returns
 returns c = (λ cs. sym (hit-out _ cs _ _ 0 _ (c .if1 .taken)), λ e. clash {b = true} refl (sym e))
 
--- src/lib.rt:123:13
 mul-a : tie.Need-mul-a
 mul-a c = search needs
 
--- src/lib.rt:123:13
 add-a : tie.Need-add-a
 add-a c = search needs
 
--- src/lib.rt:124:17
 key-len-requires : tie.Need-key-len-requires
 key-len-requires c κs = search needs
 
--- src/lib.rt:124:13
 add-e : tie.Need-add-e
 add-e c = search needs
 
--- src/lib.rt:125:18
 sub-same : tie.Need-sub-same
 sub-same c = search needs
 
--- src/lib.rt:125:18
 part-same-start : tie.Need-part-same-start
 part-same-start c = search needs
 
--- src/lib.rt:125:18
 part-same-end : tie.Need-part-same-end
 part-same-end c = search needs
 
--- src/lib.rt:125:5
 same-requires : tie.Need-same-requires
 same-requires c κs = search needs
 
--- src/lib.rt:116:1
 returns-2 : tie.Need-returns-2
 returns-2 c =
     let l = c .before .before in

@@ -7,28 +7,19 @@ use Rattle.ledger.proofs.Changes.{inserted}
 use borrow.Author.Needs.{needs}
 use Rattle.ledger.proofs.insert.Statement.{statement}
 use Rattle.ledger.proofs.insert.Tie as tie
-use Rattle.ledger.proofs.insert.Reads as reads
-use Rattle.ledger.proofs.insert.Lts as lts
-use Rattle.ledger.proofs.insert_counts.Reads as insert-counts-reads
-use Rattle.ledger.proofs.insert_key.Reads as insert-key-reads
 
--- src/lib.rt:156:5
 insert-key-requires : tie.Need-insert-key-requires
 insert-key-requires c κs = search needs
 
--- src/lib.rt:157:5
 insert-counts-requires : tie.Need-insert-counts-requires
 insert-counts-requires c κs = search needs
 
--- src/lib.rt:151:1
 same-length : tie.Need-same-length
 same-length c = search needs
 
--- src/lib.rt:151:1
 same-length-2 : tie.Need-same-length-2
 same-length-2 c = search needs
 
--- src/lib.rt:151:1
 returns : tie.Need-returns
 returns c =
     let v = c .before .before .insert-counts in

@@ -6,50 +6,37 @@ use Rattle.ledger.proofs.Inserts.{counts-more}
 use borrow.Author.Needs.{needs}
 use Rattle.ledger.proofs.insert_counts.Statement.{statement}
 use Rattle.ledger.proofs.insert_counts.Tie as tie
-use Rattle.ledger.proofs.insert_counts.Reads as reads
-use Rattle.ledger.proofs.insert_counts.Lts as lts
-use Rattle.ledger.proofs.move_counts.Reads as move-counts-reads
 
--- src/lib.rt:106:16
 mul-from : tie.Need-mul-from
 mul-from c = search needs
 
--- src/lib.rt:107:31
 mul-move-counts : tie.Need-mul-move-counts
 mul-move-counts c = search needs
 
--- src/lib.rt:107:5
 move-counts-requires : tie.Need-move-counts-requires
 move-counts-requires c κs = search needs
 
--- src/lib.rt:108:5
 mul-counts : tie.Need-mul-counts
 mul-counts c = search needs
 
--- src/lib.rt:108:5
 slice-write-counts : tie.Need-slice-write-counts
 slice-write-counts c = search needs
 
--- src/lib.rt:109:12
 add-counts : tie.Need-add-counts
 add-counts c = search needs
 
--- src/lib.rt:109:5
 mul-counts-2 : tie.Need-mul-counts-2
 mul-counts-2 c = search needs
 
--- src/lib.rt:109:5
 slice-write-counts-2 : tie.Need-slice-write-counts-2
 slice-write-counts-2 c =
     let v = c .before .before .move-counts in
     let a = c .before .before .before .before .before .args in
     omega (arith, v .ensures .size, length-set (v .last .0) (2 * a .at) (a .marks))
 
--- src/lib.rt:102:1
 same-length : tie.Need-same-length
 same-length c = search needs
 
--- src/lib.rt:102:1
 returns : tie.Need-returns
 returns c =
     let v = c .before .before .move-counts in

@@ -7,36 +7,25 @@ use Rattle.ledger.proofs.Inserts.{key-more}
 use borrow.Author.Needs.{needs}
 use Rattle.ledger.proofs.insert_key.Statement.{statement}
 use Rattle.ledger.proofs.insert_key.Tie as tie
-use Rattle.ledger.proofs.insert_key.Reads as reads
-use Rattle.ledger.proofs.insert_key.Lts as lts
-use Rattle.ledger.proofs.move_bytes.Reads as move-bytes-reads
-use Rattle.subtag.proofs.put.Reads as put-reads
 
--- src/lib.rt:95:16
 mul-from : tie.Need-mul-from
 mul-from c = search needs
 
--- src/lib.rt:96:28
 mul-move-bytes : tie.Need-mul-move-bytes
 mul-move-bytes c = search needs
 
--- src/lib.rt:96:5
 move-bytes-requires : tie.Need-move-bytes-requires
 move-bytes-requires c κs = search needs
 
--- src/lib.rt:97:18
 cast-keys : tie.Need-cast-keys
 cast-keys c = search needs
 
--- src/lib.rt:97:5
 slice-write-keys : tie.Need-slice-write-keys
 slice-write-keys c = search needs
 
--- src/lib.rt:98:20
 add-put : tie.Need-add-put
 add-put c = search needs
 
--- src/lib.rt:98:5
 put-requires : tie.Need-put-requires
 put-requires c κs =
     let v = c .before .before .before .move-bytes in
@@ -50,11 +39,9 @@ key-there c =
     let a = c .before .before .before .before .before .before .before .before .before .before in
     rw (c .before .before .put .ensures .1) (key-more (a .args .keys .now) (v .last .0) (a .args .n) (a .args .at) (a .args .key .now) (a .pre .1) (a .pre .0) (a .pre .2) (a .pre .3) (v .ensures))
 
--- src/lib.rt:91:1
 same-length : tie.Need-same-length
 same-length c = (key-there c) .size
 
--- src/lib.rt:91:1
 returns : tie.Need-returns
 returns c = key-there c
 

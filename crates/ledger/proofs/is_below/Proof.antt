@@ -8,56 +8,40 @@ use Rattle.ledger.proofs.Moves.{below-key}
 use borrow.Author.Needs.{needs}
 use Rattle.ledger.proofs.is_below.Statement.{statement}
 use Rattle.ledger.proofs.is_below.Tie as tie
-use Rattle.ledger.proofs.is_below.Reads as reads
-use Rattle.ledger.proofs.is_below.Lts as lts
-use Rattle.ledger.proofs.key_len.Reads as key-len-reads
-use Rattle.subtag.proofs.compare.Reads as compare-reads
 
--- src/lib.rt:38:13
 mul-a : tie.Need-mul-a
 mul-a c = search needs
 
--- src/lib.rt:38:13
 add-a : tie.Need-add-a
 add-a c = search needs
 
--- src/lib.rt:39:17
 key-len-requires : tie.Need-key-len-requires
 key-len-requires c κs = search needs
 
--- src/lib.rt:39:13
 add-e : tie.Need-add-e
 add-e c = search needs
 
--- src/lib.rt:40:29
 sub-compare : tie.Need-sub-compare
 sub-compare c = search needs
 
--- src/lib.rt:40:29
 part-compare-start : tie.Need-part-compare-start
 part-compare-start c = search needs
 
--- src/lib.rt:40:29
 part-compare-end : tie.Need-part-compare-end
 part-compare-end c = search needs
 
--- src/lib.rt:40:9
 compare-requires : tie.Need-compare-requires
 compare-requires c κs = search needs
 
--- src/lib.rt:42:32
 enum-told : tie.Need-enum-told
 enum-told c = search needs
 
--- src/lib.rt:43:25
 enum-told-2 : tie.Need-enum-told-2
 enum-told-2 c = search needs
 
--- src/lib.rt:44:27
 enum-told-3 : tie.Need-enum-told-3
 enum-told-3 c = search needs
 
--- src/lib.rt:34:1
 returns : tie.Need-returns
 unfolding isLt
 returns c =
@@ -65,7 +49,6 @@ returns c =
     let l = k .before .before in
     sym (ap (λ (o : Order). isLt (orderOf o)) (c .enum-told .given .1)) ∙ below-key (k .compare .result) (l .before .before .before .args .keys .now) _ (l .before .before .before .args .i) _ _ (l .key-len .result) (k .compare .ensures) refl refl (l .key-len .ensures .0) (omega (arith, l .key-len .ensures .1))
 
--- src/lib.rt:34:1
 returns-2 : tie.Need-returns-2
 unfolding isLt
 returns-2 c =
@@ -73,7 +56,6 @@ returns-2 c =
     let l = k .before .before in
     sym (ap (λ (o : Order). isLt (orderOf o)) (c .enum-told2 .given .1)) ∙ below-key (k .compare .result) (l .before .before .before .args .keys .now) _ (l .before .before .before .args .i) _ _ (l .key-len .result) (k .compare .ensures) refl refl (l .key-len .ensures .0) (omega (arith, l .key-len .ensures .1))
 
--- src/lib.rt:34:1
 returns-3 : tie.Need-returns-3
 unfolding isLt
 returns-3 c =

@@ -5,27 +5,19 @@ use Rattle.ledger.proofs.Moves.{short, long}
 use borrow.Author.Needs.{needs}
 use Rattle.ledger.proofs.key_len.Statement.{statement}
 use Rattle.ledger.proofs.key_len.Tie as tie
-use Rattle.ledger.proofs.key_len.Reads as reads
-use Rattle.ledger.proofs.key_len.Lts as lts
-use Rattle.ledger.proofs.size_of.Reads as size-of-reads
 
--- src/lib.rt:26:18
 mul-b : tie.Need-mul-b
 mul-b c = search needs
 
--- src/lib.rt:26:13
 shared-slice-read-b : tie.Need-shared-slice-read-b
 shared-slice-read-b c = search needs
 
--- src/lib.rt:28:9
 size-of-requires : tie.Need-size-of-requires
 size-of-requires c κs = search needs
 
--- src/lib.rt:28:9
 returns : tie.Need-returns
 returns c = (c .size-of .ensures ∙ sym (short _ (c .before .if1 .taken)), omega (arith, c .size-of .ensures))
 
--- src/lib.rt:22:1
 returns-2 : tie.Need-returns-2
 returns-2 c = (sym (long _ (c .if1 .left)), omega arith)
 

@@ -8,22 +8,16 @@ use Rattle.ledger.specs.Entries.{markOf}
 use borrow.Author.Needs.{needs}
 use Rattle.ledger.proofs.mark_of.Statement.{statement}
 use Rattle.ledger.proofs.mark_of.Tie as tie
-use Rattle.ledger.proofs.mark_of.Reads as reads
-use Rattle.ledger.proofs.mark_of.Lts as lts
 
--- src/lib.rt:165:11
 sub-result : tie.Need-sub-result
 sub-result c = search needs
 
--- src/lib.rt:165:11
 cast-result : tie.Need-cast-result
 cast-result c = search needs
 
--- src/lib.rt:165:5
 shl-result : tie.Need-shl-result
 shl-result c = search needs
 
--- src/lib.rt:161:1
 returns : tie.Need-returns
 unfolding markOf
 returns c = shl-exact 1 (c .args .member - 1) 64 (omega arith) (omega arith) ∙ one-mul (2 ^ (c .args .member - 1))

@@ -5,9 +5,6 @@ use native.Mathlib.Omega.{arith}
 use Rattle.ledger.proofs.Moves.{Between, search-start, search-above, search-below, search-end}
 use Rattle.ledger.proofs.place_of.Statement.{statement}
 use Rattle.ledger.proofs.place_of.Tie as tie
-use Rattle.ledger.proofs.place_of.Reads as reads
-use Rattle.ledger.proofs.place_of.Lts as lts
-use Rattle.ledger.proofs.is_below.Reads as is-below-reads
 
 abbrev Inv-loop : tie.InvT-loop
 Inv-loop keys n key lo₀ hi₀ lo hi = (lo ≤ hi) × (hi ≤ n) × Between keys key n lo hi
@@ -15,47 +12,37 @@ Inv-loop keys n key lo₀ hi₀ lo hi = (lo ≤ hi) × (hi ≤ n) × Between key
 abbrev μ-loop : tie.MeasureT-loop
 μ-loop keys n key lo₀ hi₀ lo hi = hi - lo
 
--- src/lib.rt:48:5
 loop-holds : tie.Need-loop-holds Inv-loop μ-loop
 loop-holds c = (omega arith, omega arith, search-start _ _ _)
 
--- src/lib.rt:49:25
 sub-mid : tie.Need-sub-mid Inv-loop μ-loop
 sub-mid c = omega arith
 
--- src/lib.rt:49:19
 add-mid : tie.Need-add-mid Inv-loop μ-loop
 add-mid c = omega arith
 
--- src/lib.rt:50:12
 is-below-requires : tie.Need-is-below-requires Inv-loop μ-loop
 is-below-requires c κs = (omega arith, c .before .before .before .before .pre .1)
 
--- src/lib.rt:51:18
 add-lo : tie.Need-add-lo Inv-loop μ-loop
 add-lo c = omega arith
 
--- src/lib.rt:48:5
 loop-less : tie.Need-loop-less Inv-loop μ-loop
 loop-less c = omega arith
 
--- src/lib.rt:48:5
 loop-again : tie.Need-loop-again Inv-loop μ-loop
 loop-again c =
     let l = c .before .before .before in
     (omega arith, omega arith, search-above _ _ _ _ _ _ (omega arith) (sym (c .before .is-below .ensures) ∙ c .if1 .taken) (l .loop .inv .2))
 
--- src/lib.rt:48:5
 loop-less-2 : tie.Need-loop-less-2 Inv-loop μ-loop
 loop-less-2 c = omega arith
 
--- src/lib.rt:48:5
 loop-again-2 : tie.Need-loop-again-2 Inv-loop μ-loop
 loop-again-2 c =
     let l = c .before .before .before in
     (omega arith, omega arith, search-below _ _ _ _ _ _ (omega arith) (sym (c .before .is-below .ensures) ∙ c .if1 .left) (l .loop .inv .2))
 
--- src/lib.rt:42:1
 returns : tie.Need-returns Inv-loop μ-loop
 returns c = (omega arith, search-end _ _ _ _ _ (omega arith) (c .before .loop .inv .2))
 

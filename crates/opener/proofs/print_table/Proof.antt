@@ -20,7 +20,7 @@ write-all-requires : tie.Need-write-all-requires
 write-all-requires c κs = search needs
 
 returns : tie.Need-returns
-returns c = search needs
+returns c = c .before .before .before .table-line .ensures .0
 
 pub print-table-spec : {M : Type 1} → statement M
 print-table-spec =

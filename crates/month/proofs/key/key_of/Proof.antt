@@ -1,36 +1,25 @@
 -- `month::key::key_of` meets its contract. Assumes nothing.
 use mathlib.Core.Path.{sym}
 use native.Mathlib.Omega.{arith}
-use Rattle.likely.proofs.Formed.{canonicalised, formed-by, fits-by, in-order}
+use Rattle.canonical.proofs.Canonicalised.{canonicalised, formed-by, fits-by, in-order}
 use Rattle.month.specs.Keys.{keyIs}
 use Rattle.month.proofs.Keying.{refused-key, made-key}
 use borrow.Author.Needs.{needs}
 use Rattle.month.proofs.key.key_of.Statement.{statement}
 use Rattle.month.proofs.key.key_of.Tie as tie
-use Rattle.month.proofs.key.key_of.Reads as reads
-use Rattle.month.proofs.key.key_of.Lts as lts
-use Rattle.canonical.proofs.buffer.buffer.Reads as buffer-reads
-use Rattle.canonical.proofs.form.canonical_form.Reads as canonical-form-reads
-use Rattle.likely.proofs.tested.from_form.Reads as from-form-reads
-use Rattle.month.proofs.key.without_rest.Reads as without-rest-reads
 
--- src/key.rt:51:19
 buffer-requires : tie.Need-buffer-requires
 buffer-requires c κs = search needs
 
--- src/key.rt:52:54
 slice-aggregate-canonical-form : tie.Need-slice-aggregate-canonical-form
 slice-aggregate-canonical-form c = search needs
 
--- src/key.rt:52:9
 canonical-form-requires : tie.Need-canonical-form-requires
 canonical-form-requires c κs = search needs
 
--- src/key.rt:53:23
 enum-known-c : tie.Need-enum-known-c
 enum-known-c c = search needs
 
--- src/key.rt:54:9
 returns : tie.Need-returns
 unfolding keyIs
 returns c =
@@ -38,11 +27,9 @@ returns c =
     let k = c .before .before .canonical-form in
     (sym (refused-key (a .aliases .now) (a .likely .now) (a .id .now) _ (k .result) (k .ensures .0) (c .match .keys2)), omega arith)
 
--- src/key.rt:56:29
 slice-aggregate-from-form : tie.Need-slice-aggregate-from-form
 slice-aggregate-from-form c = search needs
 
--- src/key.rt:56:9
 from-form-requires : tie.Need-from-form-requires
 from-form-requires c κs =
     let a = c .before .before .before .before .before .before .before .before .before .before .before .before .before .before .before .args in
@@ -53,7 +40,6 @@ from-form-requires c κs =
     let n = fits-by (g .1) (k .ensures .1) in
     (o .0, o .1, o .2, omega arith)
 
--- src/key.rt:58:16
 sub-rest : tie.Need-sub-rest
 sub-rest c =
     let a = c .before .before .before .before .before .before .before .before .before .before .before .before .before .before .before .before .before .before .before .args in
@@ -62,15 +48,12 @@ sub-rest c =
     let w = canonicalised (a .aliases .now) (a .id .now) _ _ (formed-by _ _ _ (g .1) (k .ensures .0)) in
     (in-order _ _ (w .ends)) .2
 
--- src/key.rt:59:5
 without-rest-requires : tie.Need-without-rest-requires
 without-rest-requires c κs = search needs
 
--- src/key.rt:40:1
 same-length : tie.Need-same-length
 same-length c = search needs
 
--- src/key.rt:40:1
 returns-2 : tie.Need-returns-2
 returns-2 c =
     let b = c .before .before .before .before .before .before .before .before .before .before .before .before .before .before .before .before .before .before .before .before in

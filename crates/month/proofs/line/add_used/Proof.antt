@@ -6,29 +6,21 @@ use lib.Seq.{length-take-le}
 use borrow.Author.Needs.{needs}
 use Rattle.month.proofs.line.add_used.Statement.{statement}
 use Rattle.month.proofs.line.add_used.Tie as tie
-use Rattle.month.proofs.line.add_used.Reads as reads
-use Rattle.month.proofs.line.add_used.Lts as lts
-use Rattle.ledger.proofs.add.Reads as add-reads
 
--- src/line.rt:91:42
 slice-aggregate-add : tie.Need-slice-aggregate-add
 slice-aggregate-add c = let a = c .before .before .before .before .before .before in sym (length-take-le (a .args .len) (a .args .out .now) (omega arith))
 
--- src/line.rt:91:5
 add-requires : tie.Need-add-requires
 add-requires c κs =
     let a = c .before .before .before .before .before .before in
     (a .pre .0, a .pre .1, omega (arith, length-take-le (a .args .len) (a .args .out .now) (omega arith)), a .pre .2, a .pre .3)
 
--- src/line.rt:85:1
 same-length : tie.Need-same-length
 same-length c = search needs
 
--- src/line.rt:85:1
 same-length-2 : tie.Need-same-length-2
 same-length-2 c = search needs
 
--- src/line.rt:85:1
 returns : tie.Need-returns
 returns c =
     let v = c .before .before .before .before .add in

@@ -4,14 +4,10 @@ use Rattle.month.specs.State.{oneMore}
 use borrow.Author.Needs.{needs}
 use Rattle.month.proofs.line.counted.Statement.{statement}
 use Rattle.month.proofs.line.counted.Tie as tie
-use Rattle.month.proofs.line.counted.Reads as reads
-use Rattle.month.proofs.line.counted.Lts as lts
 
--- src/line.rt:78:16
 add-t4 : tie.Need-add-t4
 add-t4 c = search needs
 
--- src/line.rt:69:1
 returns : tie.Need-returns
 unfolding oneMore
 returns c = refl

@@ -1,48 +1,35 @@
 -- `month::line::take_line` meets its contract. Assumes nothing.
 use Prim.Native.Nat.{_+_}
 use native.Mathlib.Omega.{arith}
-use Rattle.month.proofs.Goings.{at-18, at-refused, at-17, at-added, stopped-bounded, more-bounded}
+use Rattle.month.proofs.Goings.{at-18, at-refused, at-17, at-added, bounded-only, more-bounded}
 use borrow.Author.Needs.{needs}
 use Rattle.month.proofs.line.take_line.Statement.{statement}
 use Rattle.month.proofs.line.take_line.Tie as tie
-use Rattle.month.proofs.line.take_line.Reads as reads
-use Rattle.month.proofs.line.take_line.Lts as lts
-use Rattle.month.proofs.line.add_used.Reads as add-used-reads
-use Rattle.month.proofs.line.counted.Reads as counted-reads
-use Rattle.month.proofs.line.stop.Reads as stop-reads
-use Rattle.month.proofs.line.usage_of.Reads as usage-of-reads
 
--- src/line.rt:112:9
-stop-requires : tie.Need-stop-requires
-stop-requires c κs = search needs
+only-requires : tie.Need-only-requires
+only-requires c κs = search needs
 
--- src/line.rt:112:9
 returns : tie.Need-returns
 returns c =
     let a = c .before .before .before .before .before .before .before .before .before .before .before in
-    let k = c .stop .ensures in (
-      stopped-bounded (a .args .c) _ 18 k (a .pre .4),
+    let k = c .only .ensures in (
+      bounded-only (c .only .result) 18 0 0 k,
       a .pre .5,
-      λ ls g. at-18 _ ls (a .args .c) _ _ (a .args .line .now) g (c .stop .result) k (c .before .if1 .taken),
+      λ ls g. at-18 _ ls (a .args .c) _ _ (a .args .line .now) g (c .only .result) k (c .before .if1 .taken),
     )
 
--- src/line.rt:114:9
 usage-of-requires : tie.Need-usage-of-requires
 usage-of-requires c κs = search needs
 
--- src/line.rt:118:35
 add-counted : tie.Need-add-counted
 add-counted c = search needs
 
--- src/line.rt:118:9
 counted-requires : tie.Need-counted-requires
 counted-requires c κs = search needs
 
--- src/line.rt:118:9
 same-length : tie.Need-same-length
 same-length c = search needs
 
--- src/line.rt:118:9
 returns-2 : tie.Need-returns-2
 returns-2 c =
     let u = c .before .before .before .before .before in
@@ -54,56 +41,45 @@ returns-2 c =
       λ ls g. at-refused _ ls (a .args .c) _ _ (a .args .line .now) g (c .counted .result) (u .usage-of .result) _ k (i .if1 .left) (u .usage-of .ensures .0) (c .before .before .if2 .taken),
     )
 
--- src/line.rt:120:9
 add-used-requires : tie.Need-add-used-requires
 add-used-requires c κs = search needs
 
--- src/line.rt:122:9
-stop-requires-2 : tie.Need-stop-requires-2
-stop-requires-2 c κs = search needs
+only-requires-2 : tie.Need-only-requires-2
+only-requires-2 c κs = search needs
 
--- src/line.rt:122:9
 same-length-2 : tie.Need-same-length-2
 same-length-2 c = search needs
 
--- src/line.rt:122:9
 same-length-3 : tie.Need-same-length-3
 same-length-3 c = search needs
 
--- src/line.rt:122:9
 same-length-4 : tie.Need-same-length-4
 same-length-4 c = search needs
 
--- src/line.rt:122:9
 returns-3 : tie.Need-returns-3
 returns-3 c =
     let v = c .before .before .before .before .before .before in
     let u = v .before .before .before .before .before .before .before in
     let i = u .before .before in
     let a = i .before .before .before .before .before .before .before .before .before .before in
-    let k = c .stop2 .ensures in (
-      stopped-bounded (a .args .c) _ 17 k (a .pre .4),
+    let k = c .only2 .ensures in (
+      bounded-only (c .only2 .result) 17 0 0 k,
       v .add-used .ensures .0,
-      λ ls g. at-17 _ ls (a .args .c) _ _ (a .args .line .now) g (c .stop2 .result) (u .usage-of .result) _ (u .usage-of .ensures .0) (v .before .before .before .before .if2 .left) (i .if1 .left) _ _ (v .add-used .result) (v .add-used .ensures .1) k (c .before .if3 .taken),
+      λ ls g. at-17 _ ls (a .args .c) _ _ (a .args .line .now) g (c .only2 .result) (u .usage-of .result) _ (u .usage-of .ensures .0) (v .before .before .before .before .if2 .left) (i .if1 .left) _ _ (v .add-used .result) (v .add-used .ensures .1) k (c .before .if3 .taken),
     )
 
--- src/line.rt:124:5
 counted-requires-2 : tie.Need-counted-requires-2
 counted-requires-2 c κs = search needs
 
--- src/line.rt:95:1
 same-length-5 : tie.Need-same-length-5
 same-length-5 c = search needs
 
--- src/line.rt:95:1
 same-length-6 : tie.Need-same-length-6
 same-length-6 c = search needs
 
--- src/line.rt:95:1
 same-length-7 : tie.Need-same-length-7
 same-length-7 c = search needs
 
--- src/line.rt:95:1
 returns-4 : tie.Need-returns-4
 returns-4 c =
     let v = c .before .before .before .before .before .before in
@@ -120,7 +96,7 @@ pub take-line-spec : {M : Type 1} → statement M
 take-line-spec =
     tie.close
     (tie.spec
-    stop-requires
+    only-requires
     returns
     usage-of-requires
     add-counted
@@ -128,7 +104,7 @@ take-line-spec =
     same-length
     returns-2
     add-used-requires
-    stop-requires-2
+    only-requires-2
     same-length-2
     same-length-3
     same-length-4

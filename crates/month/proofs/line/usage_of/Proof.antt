@@ -5,43 +5,31 @@ use Rattle.month.proofs.Usages.{no-member, no-key, has-key, positive}
 use borrow.Author.Needs.{needs}
 use Rattle.month.proofs.line.usage_of.Statement.{statement}
 use Rattle.month.proofs.line.usage_of.Tie as tie
-use Rattle.month.proofs.line.usage_of.Reads as reads
-use Rattle.month.proofs.line.usage_of.Lts as lts
-use Rattle.month.proofs.key.key_of.Reads as key-of-reads
-use Rattle.month.proofs.shape.shape_of.Reads as shape-of-reads
 
--- src/line.rt:35:9
 shape-of-requires : tie.Need-shape-of-requires
 shape-of-requires c κs = search needs
 
--- src/line.rt:39:9
 returns : tie.Need-returns
 unfolding usedIs usedBy
 returns c =
     let h = c .before .shape-of in
     (no-member _ _ (h .result) (h .ensures) (c .if1 .taken), omega arith, omega arith)
 
--- src/line.rt:44:22
 sub-key-of : tie.Need-sub-key-of
 sub-key-of c = search needs
 
--- src/line.rt:44:22
 part-key-of-start : tie.Need-part-key-of-start
 part-key-of-start c = search needs
 
--- src/line.rt:44:22
 part-key-of-end : tie.Need-part-key-of-end
 part-key-of-end c = search needs
 
--- src/line.rt:44:9
 key-of-requires : tie.Need-key-of-requires
 key-of-requires c κs = search needs
 
--- src/line.rt:46:9
 same-length : tie.Need-same-length
 same-length c = search needs
 
--- src/line.rt:46:9
 returns-2 : tie.Need-returns-2
 unfolding usedIs usedBy
 returns-2 c =
@@ -50,11 +38,9 @@ returns-2 c =
     let h = i .before .shape-of in
     (no-key _ _ (h .result) (h .ensures) (k .key-of .result) _ (positive (h .result .member) (i .if1 .left)) (c .if2 .taken) (k .key-of .ensures .0), omega arith, omega arith)
 
--- src/line.rt:24:1
 same-length-2 : tie.Need-same-length-2
 same-length-2 c = search needs
 
--- src/line.rt:24:1
 returns-3 : tie.Need-returns-3
 unfolding usedIs
 returns-3 c =

@@ -13,10 +13,6 @@ use Rattle.month.specs.State.{Bounded, Going}
 use Rattle.month.proofs.Taking.{Taken, taken-none, taken-more, taken-next, taken-stopped, taken-all}
 use Rattle.month.proofs.piece.take_lines.Statement.{statement}
 use Rattle.month.proofs.piece.take_lines.Tie as tie
-use Rattle.month.proofs.piece.take_lines.Reads as reads
-use Rattle.month.proofs.piece.take_lines.Lts as lts
-use Rattle.month.proofs.line.take_line.Reads as take-line-reads
-use Rattle.table.proofs.end_of.Reads as end-of-reads
 
 abbrev Inv-loop : tie.InvT-loop
 Inv-loop piece aliases alias-hints likely likely-hints keys₀ counts₀ out₀ c₀ at₀ keys counts out c at =
@@ -26,31 +22,25 @@ Inv-loop piece aliases alias-hints likely likely-hints keys₀ counts₀ out₀ 
 abbrev μ-loop : tie.MeasureT-loop
 μ-loop piece aliases alias-hints likely likely-hints keys₀ counts₀ out₀ c₀ at₀ keys counts out c at = length piece + 1 - at
 
--- src/piece.rt:36:5
 loop-holds : tie.Need-loop-holds Inv-loop μ-loop
 loop-holds c =
     let a = c .before .before .before .before .before .before .before .before in
     (refl, refl, refl, a .pre .4, a .pre .5, λ ls g. taken-none _ _ ls _ _ _ g)
 
--- src/piece.rt:38:13
 same-length : tie.Need-same-length Inv-loop μ-loop
 same-length c = c .before .before .before .loop .inv .0
 
--- src/piece.rt:38:13
 same-length-2 : tie.Need-same-length-2 Inv-loop μ-loop
 same-length-2 c = c .before .before .before .loop .inv .1
 
--- src/piece.rt:38:13
 same-length-3 : tie.Need-same-length-3 Inv-loop μ-loop
 same-length-3 c = c .before .before .before .loop .inv .2
 
--- src/piece.rt:38:13
 returns : tie.Need-returns Inv-loop μ-loop
 returns c =
     let l = c .before .before .before .loop in
     (l .inv .3, l .inv .4, λ ls g. taken-stopped _ _ ls _ _ _ _ (c .if1 .taken) (l .inv .5 ls g))
 
--- src/piece.rt:40:13
 end-of-requires : tie.Need-end-of-requires Inv-loop μ-loop
 end-of-requires c κs = search needs
 
@@ -58,34 +48,27 @@ end-of-requires c κs = search needs
 the-line : (c : tie.After-end-of Inv-loop μ-loop) → Line (c .before .before .before .before .before .before .before .before .before .before .before .before .before .args .piece .now) (c .before .before .before .before .loop .at) (c .end-of .result)
 the-line c = line (c .before .before .before .before .before .before .before .before .before .before .before .before .before .args .piece .now) (c .before .before .before .before .loop .at) (c .end-of .result) (c .before .before .before .loop-test .taken) (c .end-of .ensures)
 
--- src/piece.rt:43:13
 sub-take-line : tie.Need-sub-take-line Inv-loop μ-loop
 sub-take-line c = let l = the-line c in omega (arith, l .low, l .high)
 
--- src/piece.rt:43:13
 part-take-line-start : tie.Need-part-take-line-start Inv-loop μ-loop
 part-take-line-start c = let l = the-line c in omega (arith, l .low, l .high)
 
--- src/piece.rt:43:13
 part-take-line-end : tie.Need-part-take-line-end Inv-loop μ-loop
 part-take-line-end c = let l = the-line c in omega (arith, l .low, l .high)
 
--- src/piece.rt:41:9
 take-line-requires : tie.Need-take-line-requires Inv-loop μ-loop
 take-line-requires c κs =
     let l = c .before .before .before .before .before .before .before .before .loop in
     let a = c .before .before .before .before .before .before .before .before .before .before .before .before .before .before .before .before .before in
     (a .pre .0, a .pre .1, a .pre .2, omega (arith, a .pre .3, l .inv .2), l .inv .3, l .inv .4)
 
--- src/piece.rt:52:14
 next-line-requires : tie.Need-next-line-requires Inv-loop μ-loop
 next-line-requires c κs = search needs
 
--- src/piece.rt:36:5
 loop-less : tie.Need-loop-less Inv-loop μ-loop
 loop-less c = let e = c .before .before .before .before .before .before .before .before .before .before .before .before in omega (arith, next-above (e .before .before .before .before .before .before .before .before .before .before .before .before .before .args .piece .now) (e .before .before .before .before .loop .at) (e .end-of .result) (c .next-line .result) (e .before .before .before .loop-test .taken) (e .end-of .ensures) (c .next-line .ensures), e .before .before .before .loop-test .taken)
 
--- src/piece.rt:36:5
 loop-again : tie.Need-loop-again Inv-loop μ-loop
 loop-again c =
     let v = c .before .before .before .before .before .before .before .take-line in
@@ -101,19 +84,15 @@ loop-again c =
           (taken-more _ _ ls (l .at) (e .end-of .result) (l .c) _ _ (v .result) _ _ (e .before .before .before .loop-test .taken) (e .end-of .ensures) (e .before .if1 .left) (l .inv .5 ls g) (v .ensures .2)),
     )
 
--- src/piece.rt:18:1
 same-length-4 : tie.Need-same-length-4 Inv-loop μ-loop
 same-length-4 c = c .before .loop .inv .0
 
--- src/piece.rt:18:1
 same-length-5 : tie.Need-same-length-5 Inv-loop μ-loop
 same-length-5 c = c .before .loop .inv .1
 
--- src/piece.rt:18:1
 same-length-6 : tie.Need-same-length-6 Inv-loop μ-loop
 same-length-6 c = c .before .loop .inv .2
 
--- src/piece.rt:18:1
 returns-2 : tie.Need-returns-2 Inv-loop μ-loop
 returns-2 c =
     let l = c .before .loop in

@@ -4,22 +4,16 @@ use Rattle.month.proofs.Shapes.{one-low, one-high, one-digit}
 use borrow.Author.Needs.{needs}
 use Rattle.month.proofs.shape.one_digit.Statement.{statement}
 use Rattle.month.proofs.shape.one_digit.Tie as tie
-use Rattle.month.proofs.shape.one_digit.Reads as reads
-use Rattle.month.proofs.shape.one_digit.Lts as lts
 
--- src/shape.rt:18:9
 returns : tie.Need-returns
 returns c = (one-low _ (c .if1 .taken), omega arith)
 
--- src/shape.rt:21:9
 returns-2 : tie.Need-returns-2
 returns-2 c = (one-high _ (c .before .if1 .left) (c .if2 .taken), omega arith)
 
--- src/shape.rt:23:5
 sub-result : tie.Need-sub-result
 sub-result c = search needs
 
--- src/shape.rt:14:1
 returns-3 : tie.Need-returns-3
 returns-3 c = (one-digit _ (c .before .if1 .left) (c .if2 .left), omega arith)
 

@@ -3,53 +3,38 @@ use Rattle.month.proofs.Shapes.{no-tab, one-shape, two-shape, wrong-siz
 use borrow.Author.Needs.{needs}
 use Rattle.month.proofs.shape.shape_of.Statement.{statement}
 use Rattle.month.proofs.shape.shape_of.Tie as tie
-use Rattle.month.proofs.shape.shape_of.Reads as reads
-use Rattle.month.proofs.shape.shape_of.Lts as lts
-use Rattle.month.proofs.shape.one_digit.Reads as one-digit-reads
-use Rattle.month.proofs.shape.two_digits.Reads as two-digits-reads
-use Rattle.table.proofs.end_of.Reads as end-of-reads
 
--- src/shape.rt:51:9
 end-of-requires : tie.Need-end-of-requires
 end-of-requires c κs = search needs
 
--- src/shape.rt:53:9
 returns : tie.Need-returns
 returns c = no-tab _ (rw (c .before .end-of .ensures) at (c .if1 .taken))
 
--- src/shape.rt:60:31
 shared-slice-read-one-digit : tie.Need-shared-slice-read-one-digit
 shared-slice-read-one-digit c = search needs
 
--- src/shape.rt:60:21
 one-digit-requires : tie.Need-one-digit-requires
 one-digit-requires c κs = search needs
 
--- src/shape.rt:59:9
 returns-2 : tie.Need-returns-2
 returns-2 c =
     let e = c .before .before .before .before in
     one-shape (e .before .before .args .line .now) (e .end-of .result) (c .one-digit .result) (c .before .before .if2 .taken) (e .end-of .ensures) (c .before .before .before .if1 .left) (c .one-digit .ensures .0) (c .one-digit .ensures .1)
 
--- src/shape.rt:66:32
 shared-slice-read-two-digits : tie.Need-shared-slice-read-two-digits
 shared-slice-read-two-digits c = search needs
 
--- src/shape.rt:66:41
 shared-slice-read-two-digits-2 : tie.Need-shared-slice-read-two-digits-2
 shared-slice-read-two-digits-2 c = search needs
 
--- src/shape.rt:66:21
 two-digits-requires : tie.Need-two-digits-requires
 two-digits-requires c κs = search needs
 
--- src/shape.rt:65:9
 returns-3 : tie.Need-returns-3
 returns-3 c =
     let e = c .before .before .before .before .before .before in
     two-shape (e .before .before .args .line .now) (e .end-of .result) (c .two-digits .result) (c .before .before .before .if3 .taken) (e .end-of .ensures) (c .before .before .before .before .before .if1 .left) (c .two-digits .ensures .0) (c .two-digits .ensures .1)
 
--- src/shape.rt:48:1
 returns-4 : tie.Need-returns-4
 returns-4 c =
     let e = c .before .before .before in

@@ -4,42 +4,31 @@ use Rattle.month.proofs.Shapes.{two-first-low, two-first-high, two-low,
 use borrow.Author.Needs.{needs}
 use Rattle.month.proofs.shape.two_digits.Statement.{statement}
 use Rattle.month.proofs.shape.two_digits.Tie as tie
-use Rattle.month.proofs.shape.two_digits.Reads as reads
-use Rattle.month.proofs.shape.two_digits.Lts as lts
 
--- src/shape.rt:30:9
 returns : tie.Need-returns
 returns c = (two-first-low _ _ (c .if1 .taken), omega arith)
 
--- src/shape.rt:33:9
 returns-2 : tie.Need-returns-2
 returns-2 c = (two-first-high _ _ (c .if2 .taken), omega arith)
 
--- src/shape.rt:36:9
 returns-3 : tie.Need-returns-3
 returns-3 c = (two-low _ _ (c .before .before .if1 .left) (c .before .if2 .left) (c .if3 .taken), omega arith)
 
--- src/shape.rt:39:9
 returns-4 : tie.Need-returns-4
 returns-4 c = (two-high _ _ (c .before .before .before .if1 .left) (c .before .before .if2 .left) (c .before .if3 .left) (c .if4 .taken), omega arith)
 
--- src/shape.rt:41:14
 sub-n : tie.Need-sub-n
 sub-n c = search needs
 
--- src/shape.rt:41:13
 mul-n : tie.Need-mul-n
 mul-n c = search needs
 
--- src/shape.rt:41:13
 add-n : tie.Need-add-n
 add-n c = search needs
 
--- src/shape.rt:43:9
 returns-5 : tie.Need-returns-5
 returns-5 c = (two-most _ _ (c .before .before .before .before .if1 .left) (c .before .before .before .if2 .left) (c .before .before .if3 .left) (c .before .if4 .left) (c .if5 .taken), omega arith)
 
--- src/shape.rt:26:1
 returns-6 : tie.Need-returns-6
 returns-6 c = (two-digits _ _ (c .before .before .before .before .if1 .left) (c .before .before .before .if2 .left) (c .before .before .if3 .left) (c .before .if4 .left) (c .if5 .left), omega arith)
 

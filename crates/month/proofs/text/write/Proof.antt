@@ -1,23 +1,33 @@
 -- `month::text::write` meets its contract. Assumes nothing.
 use mathlib.Core.Path.{refl, sym}
+use mathlib.Core.List.{[]}
 use native.Mathlib.Omega.{arith}
-use Rattle.month.specs.Text.{monthText, countsText}
-use Rattle.month.proofs.Bills.{held-text, as-text}
+use lib.ListN.{length}
+use Rattle.month.specs.Text.{countsText}
+use Rattle.month.proofs.Bills.{none-short, none-keys, none-counts, none-many, all-written, as-text}
 use borrow.Author.Needs.{needs}
 use Rattle.month.proofs.text.write.Statement.{statement}
 use Rattle.month.proofs.text.write.Tie as tie
 
 returns : tie.Need-returns
-returns c = (omega arith, λ h. (refl, refl), λ A L ls h k. absurd (omega (arith, c .if1 .taken, k)))
+returns c =
+    let w = as-text [] _ 0 _ _ (sym (none-short _ _ _ _ (c .if1 .taken))) refl refl in
+    (w .0, w .1, omega arith)
 
 returns-2 : tie.Need-returns-2
-returns-2 c = (omega arith, λ h. (refl, refl), λ A L ls h k. absurd (c .if2 .taken (h .sized .keys)))
+returns-2 c =
+    let w = as-text [] _ 0 _ _ (sym (none-keys _ _ _ _ (c .before .if1 .left) (c .if2 .taken))) refl refl in
+    (w .0, w .1, omega arith)
 
 returns-3 : tie.Need-returns-3
-returns-3 c = (omega arith, λ h. (refl, refl), λ A L ls h k. absurd (c .if3 .taken (h .sized .counts)))
+returns-3 c =
+    let w = as-text [] _ 0 _ _ (sym (none-counts _ _ _ _ (c .before .before .if1 .left) (c .before .if2 .left) (c .if3 .taken))) refl refl in
+    (w .0, w .1, omega arith)
 
 returns-4 : tie.Need-returns-4
-returns-4 c = (omega arith, λ h. (refl, refl), λ A L ls h k. absurd (omega (arith, c .if4 .taken, h .bounded .keys)))
+returns-4 c =
+    let w = as-text [] _ 0 _ _ (sym (none-many _ _ _ _ (c .before .before .before .before .if1 .left) (c .before .before .before .if2 .left) (c .before .before .if3 .left) (c .if4 .taken))) refl refl in
+    (w .0, w .1, omega arith)
 
 put-text-requires : tie.Need-put-text-requires
 put-text-requires c κs = search needs
@@ -29,7 +39,11 @@ returns-5 : tie.Need-returns-5
 returns-5 c =
     let a = c .before .before .before .before .before .before .before .before .before .before .before .before .args in
     let v = c .before .before .put-text in
-    (omega (arith, v .ensures .2, c .before .before .before .before .before .before .before .before .if1 .left), λ h. absurd (omega (arith, h, c .before .before .before .before .before .before .before .before .if1 .left)), λ A L ls h k. as-text (countsText (a .c) (a .keys .now) (a .counts .now)) (monthText A L ls) (v .result) (a .out .now) (v .last .1 .1 .1 .0) (held-text A L ls (a .c) (a .keys .now) (a .counts .now) h) (v .ensures .0) (v .ensures .1))
+    let i = c .before .before .before .before in
+    let w = as-text (countsText (a .c) (a .keys .now) (a .counts .now)) _ (v .result) (a .out .now) (v .last .1 .1 .1 .0)
+    (sym (all-written (a .c) (a .keys .now) (a .counts .now) (length (a .out .now)) (i .before .before .before .before .if1 .left) (i .before .before .before .if2 .left) (i .before .before .if3 .left) (i .if4 .left))) (v .ensures .0) (v .ensures .1)
+    in
+    (w .0, w .1, omega (arith, v .ensures .2, i .before .before .before .before .if1 .left))
 
 pub write-spec : {M : Type 1} → statement M
 write-spec =
