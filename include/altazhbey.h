@@ -21,10 +21,11 @@ enum altazhbey_number {
     ALTAZHBEY_EMPTY = 1,       /* no bytes */
     ALTAZHBEY_LONG = 2,        /* over 255 bytes */
     ALTAZHBEY_BYTE = 3,        /* a byte that is no letter, digit, '-' or '_'; place: the first such byte */
-    ALTAZHBEY_SIZE = 4,        /* a subtag of 0 or over 8 bytes; place: its first byte */
+    ALTAZHBEY_SIZE = 4,        /* a subtag of 0 or over 8 bytes; place: its first byte, id_len if it is at the end */
     ALTAZHBEY_MISPLACED = 5,   /* a subtag that can't stand there; place: its first byte */
     ALTAZHBEY_REPEATED = 6,    /* a repeated singleton, variant or t key; place: the repeat */
-    ALTAZHBEY_UNFINISHED = 7,  /* a singleton or t key that nothing follows; place: that singleton or key */
+    ALTAZHBEY_UNFINISHED = 7,  /* a singleton or t key followed by the end, by a one-byte subtag (not after x),
+                                  or a t key by a t key; place: that singleton or key */
     ALTAZHBEY_NO_ROW = 8,      /* no likely row */
     ALTAZHBEY_OVERLONG = 9,    /* the canonical or maximised form is over 255 bytes */
     ALTAZHBEY_SHORT_OUT = 10,  /* the lent output is too short */
