@@ -21,7 +21,8 @@ use Rattle.table.specs.Lines.{endOf}
 use Rattle.canonical.specs.declared.three.Ends.{Ends}
 use Rattle.canonical.specs.Section.{led}
 use Rattle.canonical.specs.Alias.{replacedBy, aliasedPart}
-use Rattle.canonical.specs.Three.{endsOf, afterSeparator, scriptStart, scriptEnd, partBytes, languageLookup, languageWord, canonicalThree}
+use Rattle.rows.specs.Shapes.{scriptEnd}
+use Rattle.canonical.specs.Three.{endsOf, afterSeparator, scriptStart, partBytes, languageLookup, languageWord, canonicalThree}
 use Rattle.canonical.proofs.Cuts.{part-led}
 use Rattle.canonical.proofs.Keyed.{front-in}
 use Rattle.canonical.proofs.Ready.{raw}

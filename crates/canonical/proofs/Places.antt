@@ -4,11 +4,11 @@ use mathlib.Core.List.{List, map}
 use Prim.Native.Nat.{ℕ, _+_, _-_, _≤_, _<_}
 use native.Mathlib.Omega.{arith}
 use lib.ListN.{length, take, drop, length-take}
-use borrow.Author.Tests.{le-leb, lt-leb, lt-ltb, le-ltb, eq-eqb, ne-eqb}
+use borrow.Author.Tests.{lt-ltb, le-ltb, eq-eqb, ne-eqb}
 use Rattle.standard.specs.Tag.{pick}
 use Rattle.subtag.specs.Bytes.{tidyByte, raised}
 use Rattle.canonical.specs.Alias.{aliasedPart}
-use Rattle.canonical.specs.Three.{afterSeparator, scriptStart, scriptEnd, partBytes}
+use Rattle.canonical.specs.Three.{afterSeparator, scriptStart, partBytes}
 
 pub behind : (at end : ℕ) → at < end → afterSeparator at end ≡ at + 1
 unfolding afterSeparator
@@ -25,14 +25,6 @@ start-first l s h = rw (eq-eqb l 0 h)
 pub start-later : (l s : ℕ) → (l ≡ 0 → ⊥) → scriptStart l s ≡ afterSeparator l s
 unfolding scriptStart
 start-later l s h = rw (ne-eqb l 0 h)
-
-pub end-script : (e n : ℕ) → e + 5 ≤ n → scriptEnd e n ≡ e + 5
-unfolding scriptEnd
-end-script e n h = rw (le-leb (e + 5) n h)
-
-pub end-none : (e n : ℕ) → n < e + 5 → scriptEnd e n ≡ e
-unfolding scriptEnd
-end-none e n h = rw (lt-leb (e + 5) n h)
 
 pub slice-small : (x : List ℕ) (a b m : ℕ) → b - a ≤ m → length (take (b - a) (drop a x)) ≤ m
 slice-small x a b m h = omega (arith, length-take (b - a) (drop a x))

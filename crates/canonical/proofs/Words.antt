@@ -24,10 +24,12 @@ use Rattle.subtag.proofs.Walk.{le-or-lt}
 use Rattle.table.specs.Lines.{endOf}
 use Rattle.canonical.specs.Section.{led}
 use Rattle.canonical.specs.Alias.{replacedBy}
-use Rattle.canonical.specs.Three.{between, afterSeparator, scriptEnd}
+use Rattle.rows.specs.Shapes.{scriptEnd}
+use Rattle.rows.proofs.Ends.{script-ends}
+use Rattle.canonical.specs.Three.{between, afterSeparator}
 use Rattle.canonical.proofs.Pending.{led-append}
 use Rattle.canonical.proofs.Print.{joined-led}
-use Rattle.canonical.proofs.Places.{behind, at-once, end-script, end-none}
+use Rattle.canonical.proofs.Places.{behind, at-once}
 
 -- the aliases alone
 pub aliases-passed : (A : List ℕ) → check false false A [] [] ≡ none → Passed A [] []
@@ -212,11 +214,6 @@ pub record Ended (w : List ℕ) (t : Three) (e s : ℕ) : Type 0 where
 
 after-low : (at to n : ℕ) → to ≤ at + n → at ≤ to → to - afterSeparator at to ≤ n
 after-low at to n h k = ⊎-elim (λ z. rw (at-once at to z) (omega arith)) (λ z. rw (behind at to z) (omega arith)) (le-or-lt to at)
-
--- a word's script ends five bytes after its language, or with it
-script-ends : (e n s r : ℕ) → n ≡ e + (s + r) → (s ≡ 0) ⊎ (s ≡ 5) → r ≤ 4 → scriptEnd e n ≡ e + s
-script-ends e n s r h (inl z) k = end-none e n (omega arith) ∙ omega arith
-script-ends e n s r h (inr z) k = end-script e n (omega arith) ∙ omega arith
 
 pub led-five : (s : Tag) → (s ≡ []) ⊎ (length s ≡ 4) → (length (led (optional s)) ≡ 0) ⊎ (length (led (optional s)) ≡ 5)
 unfolding led optional

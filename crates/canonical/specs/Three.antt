@@ -3,7 +3,7 @@
 use mathlib.Core.Bool.{cond}
 use mathlib.Core.List.{List, [], _++_, map}
 use Prim.Native.Nat.{ℕ, _+_, _-_}
-use lib.Dec.{leb, ltb, eqb}
+use lib.Dec.{ltb, eqb}
 use lib.ListN.{length, take, drop}
 use Rattle.standard.specs.Tag.{pick}
 use Rattle.standard.specs.Identifier.{Three, part, aliased}
@@ -32,10 +32,6 @@ afterSeparator at end = cond (ltb at end) (at + 1) end
 -- the start of the script: where the language is empty, the script is the first subtag
 unfoldable pub scriptStart : ℕ → ℕ → ℕ
 scriptStart language script = cond (eqb language 0) 0 (afterSeparator language script)
-
--- the end of the script in a value of so many bytes whose language ends at e: a region is shorter than a script
-unfoldable pub scriptEnd : ℕ → ℕ → ℕ
-scriptEnd e len = cond (leb (e + 5) len) (e + 5) e
 
 -- a subtag of a kind with its separator: the one given, else the one in the value w, then through the aliases
 unfoldable pub partBytes : List ℕ → List ℕ → ℕ → List ℕ → ℕ → ℕ → List ℕ → ℕ → ℕ → List ℕ

@@ -3,6 +3,7 @@ use crate::alias::put_replaced;
 use crate::alias::write_aliased;
 use reader::Parts;
 use reader::Start;
+use rows::three::script_end;
 use subtag::put;
 use subtag::put_tidy;
 use table::end_of;
@@ -16,7 +17,7 @@ ghost use Rattle.standard.specs.Table.{printThree};
 ghost use Rattle.reader.specs.Parts.{partsOf};
 ghost use Rattle.table.specs.Hints.{Indexed};
 ghost use Rattle.canonical.specs.Tested.{TestedWith};
-ghost use Rattle.canonical.specs.Three.{endsOf, languageLookup, languageWord, canonicalThree, afterSeparator, scriptStart, scriptEnd, partBytes};
+ghost use Rattle.canonical.specs.Three.{endsOf, languageLookup, languageWord, canonicalThree, afterSeparator, scriptStart, partBytes};
 
 // Where language, script and region end; an absent one ends where the one before it does.
 pub struct Ends {
@@ -43,17 +44,6 @@ fn script_start(language: usize, script: usize) -> usize
         return 0;
     }
     after_separator(language, script)
-}
-
-// The end of the script in an alias's value of len bytes, whose language ends at e.
-fn script_end(e: usize, len: usize) -> usize
-    requires { ⌜ e ≤ 4096 ⌝ }
-    ensures { λ r. ⌜ r ≡ scriptEnd e len ⌝ }
-{
-    if e + 5 <= len {
-        return e + 5;
-    }
-    e
 }
 
 // Writes a script or a region with its separator: the one that id holds from start to end, its first count letters as

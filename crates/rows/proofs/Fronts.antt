@@ -80,12 +80,12 @@ module _ (b : ℕ) (h : b ≤ 45) where
   low-digit = under 48 57 b (omega arith)
 
 -- Languages.
-record Sized (n : ℕ) : Type 0 where
-  low : 2 ≤ n
-  four : n ≡ 4 → ⊥
-  high : n ≤ 8
+pub record Sized (n : ℕ) : Type 0 where
+  pub low : 2 ≤ n
+  pub four : n ≡ 4 → ⊥
+  pub high : n ≤ 8
 
-language-sized : (t : Tag) → isLanguage t ≡ true → Sized (length t)
+pub language-sized : (t : Tag) → isLanguage t ≡ true → Sized (length t)
 language-sized t e = record {
   low = bool-cases (ltb (length t) 2) (λ c. clash e (sym (language-short t (ltb-true _ _ c)))) (λ c. ltb-false _ _ c);
   four = λ q. clash e (sym (language-four t q));

@@ -6,3 +6,4 @@ pub mod Passes
 pub mod Sorted
 pub mod Fronts
 pub mod Texts
+pub mod Ends

@@ -221,6 +221,9 @@ unfolding All
 region-free t (inl e) = rw e tt
 region-free t (inr e) = free-every t (region-every apart small-apart capital-apart digit-apart t e)
 
+pub language-free : (t : Tag) → isLanguage t ≡ true → Free 45 t
+language-free t e = free-every t (language-every apart small-apart capital-apart digit-apart t e)
+
 -- the two are found again
 module _ (S R : Tag) where
   found-script : (S ≡ []) ⊎ (isScript S ≡ true) → (R ≡ []) ⊎ (isRegion R ≡ true) → scriptOf (optional S ++ optional R) ≡ S
@@ -246,7 +249,7 @@ module _ (t : Subtags) (o : ThreeOk t) where
   printed : pieces 45 (printThree t) ≡ t .language ∷ tags
   unfolding printThree
   printed =
-      pieces-joined (t .language) tags (free-every (t .language) (language-every apart small-apart capital-apart digit-apart (t .language) (o .language)))
+      pieces-joined (t .language) tags (language-free (t .language) (o .language))
       (all-append (Free 45) (optional (t .script)) (optional (t .region)) (optional-free (t .script) (script-free (t .script) (o .script))) (optional-free (t .region) (region-free (t .region) (o .region))))
 
   pub print-is-three : isThree (printThree t) ≡ true

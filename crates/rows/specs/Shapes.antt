@@ -4,7 +4,7 @@ use mathlib.Core.Path.{_≡_}
 use mathlib.Core.Bool.{Bool, true, false, cond, _&&_, _||_}
 use mathlib.Core.List.{List, [], _∷_}
 use Prim.Native.Nat.{ℕ, suc, _+_, _-_, _≤_, _<_}
-use lib.Dec.{ltb, eqb}
+use lib.Dec.{ltb, leb, eqb}
 use lib.ListN.{length, take, drop, getD}
 use Rattle.standard.specs.Tag.{Tag}
 use Rattle.standard.specs.Grammar.{small, capital, digit, title, upper, aScript, aRegion}
@@ -53,6 +53,10 @@ scriptLen s = cond (eqb (getD s 0 0) 45) (cond (capital (getD s 1 0)) (cond (eqb
 -- the length of a separator and a region at the front, or 0
 unfoldable pub regionLen : List ℕ → ℕ
 regionLen s = cond (eqb (getD s 0 0) 45) (cond (eqb (run capital (drop 1 s)) 2) 3 (cond (eqb (run digit (drop 1 s)) 3) 4 0)) 0
+
+-- the end of the script in such a text of so many bytes whose language ends at e: a region is shorter than a script
+unfoldable pub scriptEnd : ℕ → ℕ → ℕ
+scriptEnd e len = cond (leb (e + 5) len) (e + 5) e
 
 -- behind the place e is nothing, or a region
 unfoldable pub noMore : List Tag → Bool

@@ -115,7 +115,7 @@ pub struct Name {
 }
 
 // Most rows are of languages.
-fn name_of(line: &[u8]) -> Name
+pub fn name_of(line: &[u8]) -> Name
     ensures { λ r. ⌜ (r .end ≡ endOf 9 (now (line .entry)) 0) × (r .kind ≡ kindNamed (take (r .end) (now (line .entry)))) ⌝ }
 {
     if table::starts_row(line, b"language") {

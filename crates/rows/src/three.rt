@@ -2,11 +2,12 @@
 use crate::subtags::Bytes;
 use crate::subtags::run_of;
 ghost use mathlib.Core.Path.{_≡_};
-ghost use mathlib.Core.Bool.{_&&_};
-ghost use Prim.Native.Nat.{_+_};
+ghost use mathlib.Core.Bool.{true, _&&_};
+ghost use Prim.Native.Nat.{_+_, _≤_};
 ghost use lib.Dec.{eqb};
 ghost use lib.ListN.{length};
-ghost use Rattle.rows.specs.Shapes.{languageLen, scriptLen, regionLen, FrontAt, ThreeAt};
+ghost use Rattle.standard.specs.Table.{isThree};
+ghost use Rattle.rows.specs.Shapes.{languageLen, scriptLen, regionLen, scriptEnd, FrontAt, ThreeAt};
 
 // Language, perhaps script, perhaps region: whether it is that, and where language and script end. Where there is no
 // script it ends with the language; the region goes to the end.
@@ -113,4 +114,29 @@ fn ends_at(f: Front, len: usize) -> bool
         return f.end == len;
     }
     false
+}
+
+// Where the script ends in such a text of len bytes whose language ends at e: a region is shorter than a script.
+pub fn script_end(e: usize, len: usize) -> usize
+    requires { ⌜ e ≤ 4096 ⌝ }
+    ensures { λ r. ⌜ r ≡ scriptEnd e len ⌝ }
+{
+    if e + 5 <= len {
+        return e + 5;
+    }
+    e
+}
+
+// The same as three_of where a row's test has found the three already: the first separator and the length tell the rest.
+pub fn ends_of(s: &[u8]) -> Three
+    requires { ⌜ isThree (now s) ≡ true ⌝ }
+    ensures { λ r. ⌜ ThreeAt (now (s .entry)) r ⌝ }
+{
+    let language = table::end_of(s, 45, 0);
+    let script = script_end(language, s.len());
+    Three {
+        ok: true,
+        language,
+        script,
+    }
 }

@@ -14,14 +14,29 @@ pub mod hints;
 pub fn end_of(s: &[u8], b: u8, from: usize) -> usize
     ensures { λ r. ⌜ r ≡ endOf b (now (s .entry)) from ⌝ }
 {
+    let n = s.len();
+    if n <= from {
+        return n;
+    }
+    let last = n - 1;
     let mut i = from;
-    while i < s.len() {
+    // two bytes a round: half as many ends of rounds to test
+    while i < last {
         if s[i] == b {
             return i;
         }
-        i += 1;
+        let next = i + 1;
+        if s[next] == b {
+            return next;
+        }
+        i = next + 1;
     }
-    s.len()
+    if i < n {
+        if s[i] == b {
+            return i;
+        }
+    }
+    n
 }
 
 // Does the line begin with the key and a tab?

@@ -23,7 +23,7 @@ fn shorter(p: &[u8], at: usize, end: usize) -> Parent
     requires { ⌜ (at ≤ end) × (end ≤ length (now p)) × ValueOk (cut (now p) at end) ⌝ }
     ensures { λ r. ⌜ ShorterAt (now (p .entry)) at end r ⌝ }
 {
-    let t = rows::three::three_of(&p[at..end]);
+    let t = rows::three::ends_of(&p[at..end]);
     let l = t.language;
     let e = t.script;
     let n = end - at;

@@ -86,7 +86,7 @@ fn value_free(a: &[u8], hints: &[u16], value: &[u8]) -> bool
     requires { ⌜ Indexed (now a) (now hints) × (isThree (now value) ≡ true) ⌝ }
     ensures { λ r. ⌜ r ≡ freeThree (now (a .entry)) (parse (now (value .entry))) ⌝ }
 {
-    let t = rows::three::three_of(value);
+    let t = rows::three::ends_of(value);
     let l = t.language;
     let e = t.script;
     if is_key(a, hints, AliasKind::Language, &value[..l]) {
@@ -119,11 +119,11 @@ pub fn alias_free(a: &[u8], hints: &[u16], line: &[u8]) -> bool
     requires { ⌜ Indexed (now a) (now hints) × (aliasShape (pieces 9 (now line)) ≡ true) ⌝ }
     ensures { λ r. ⌜ r ≡ freeAlias (now (a .entry)) (pieces 9 (now (line .entry))) ⌝ }
 {
-    let x = table::end_of(line, 9, 0);
-    let start = x + 1;
+    let n = rows::aliases::name_of(line);
+    let kind = n.kind;
+    let start = n.end + 1;
     let y = table::end_of(line, 9, start);
     let from = y + 1;
-    let kind = rows::aliases::kind_named(&line[..x]);
     !is_key(a, hints, kind, own(kind, &line[from..]))
 }
 

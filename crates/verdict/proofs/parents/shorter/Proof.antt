@@ -4,17 +4,17 @@ use borrow.Author.Needs.{needs}
 use Rattle.verdict.proofs.parents.shorter.Statement.{statement}
 use Rattle.verdict.proofs.parents.shorter.Tie as tie
 
-sub-three-of : tie.Need-sub-three-of
-sub-three-of c = search needs
+sub-ends-of : tie.Need-sub-ends-of
+sub-ends-of c = search needs
 
-part-three-of-start : tie.Need-part-three-of-start
-part-three-of-start c = search needs
+part-ends-of-start : tie.Need-part-ends-of-start
+part-ends-of-start c = search needs
 
-part-three-of-end : tie.Need-part-three-of-end
-part-three-of-end c = search needs
+part-ends-of-end : tie.Need-part-ends-of-end
+part-ends-of-end c = search needs
 
-three-of-requires : tie.Need-three-of-requires
-three-of-requires c κs = search needs
+ends-of-requires : tie.Need-ends-of-requires
+ends-of-requires c κs = search needs
 
 sub-n : tie.Need-sub-n
 sub-n c = search needs
@@ -29,7 +29,7 @@ returns : tie.Need-returns
 returns c =
     let t = c .before in
     let p = t .before .before .before .pre in
-    shorter-region _ _ _ (p .0) (p .1) (p .2) _ (t .three-of .ensures) (c .if1 .taken)
+    shorter-region _ _ _ (p .0) (p .1) (p .2) _ (t .ends-of .ensures) (c .if1 .taken)
 
 add-if2 : tie.Need-add-if2
 add-if2 c = search needs
@@ -41,22 +41,22 @@ returns-2 : tie.Need-returns-2
 returns-2 c =
     let t = c .before .before in
     let p = t .before .before .before .pre in
-    shorter-script _ _ _ (p .0) (p .1) (p .2) _ (t .three-of .ensures) (c .before .if1 .left) (c .if2 .taken)
+    shorter-script _ _ _ (p .0) (p .1) (p .2) _ (t .ends-of .ensures) (c .before .if1 .left) (c .if2 .taken)
 
 returns-3 : tie.Need-returns-3
 returns-3 c =
     let t = c .before .before in
     let p = t .before .before .before .pre in
-    shorter-root _ _ _ (p .0) (p .1) (p .2) _ (t .three-of .ensures) (c .before .if1 .left) (c .if2 .left)
+    shorter-root _ _ _ (p .0) (p .1) (p .2) _ (t .ends-of .ensures) (c .before .if1 .left) (c .if2 .left)
 
 pub shorter-spec : {M : Type 1} → statement M
 shorter-spec =
     tie.close
     (tie.spec
-    sub-three-of
-    part-three-of-start
-    part-three-of-end
-    three-of-requires
+    sub-ends-of
+    part-ends-of-start
+    part-ends-of-end
+    ends-of-requires
     sub-n
     add-if1
     add-t13

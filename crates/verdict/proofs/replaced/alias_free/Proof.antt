@@ -5,7 +5,6 @@ use mathlib.Core.Bool.{not}
 use mathlib.Core.List.{[]}
 use Prim.Native.Nat.{_+_, _-_}
 use lib.ListN.{length, take, drop}
-use lib.Seq.{length-take-le}
 use Rattle.rows.proofs.Pieces.{all-from}
 use Rattle.rows.specs.Rows.{kindNamed}
 use Rattle.verdict.specs.Keys.{isKey}
@@ -15,38 +14,30 @@ use borrow.Author.Needs.{needs}
 use Rattle.verdict.proofs.replaced.alias_free.Statement.{statement}
 use Rattle.verdict.proofs.replaced.alias_free.Tie as tie
 
+name-of-requires : tie.Need-name-of-requires
+name-of-requires c κs = search needs
+
+add-start : tie.Need-add-start
+add-start c =
+    let s = c .before .before .before .before .before in
+    let h = alias-line [] (s .args .line .now) (c .before .name-of .result .end) _ (c .before .name-of .ensures .0) refl (s .pre .1) in
+    omega (arith, h .first)
+
 end-of-requires : tie.Need-end-of-requires
 end-of-requires c κs = search needs
 
-add-start : tie.Need-add-start
-add-start c = let h = alias-line [] (c .before .before .before .before .args .line .now) (c .end-of .result) _ (c .end-of .ensures) refl (c .before .before .before .before .pre .1) in omega (arith, h .first)
-
-end-of-requires-2 : tie.Need-end-of-requires-2
-end-of-requires-2 c κs = search needs
-
 -- the fields of the row
-fields : (c : tie.After-end-of2) → AliasLine (c .before .before .before .before .before .args .a .now) (c .before .before .before .before .before .args .line .now) (c .before .end-of .result) (c .end-of2 .result)
-fields c = alias-line _ _ _ _ (c .before .end-of .ensures) (c .end-of2 .ensures) (c .before .before .before .before .before .pre .1)
-
--- the value, as the code lends it
-value : (c : tie.After-own) → ownTag (c .before .before .kind-named .result) (take (length (c .before .before .before .before .before .before .before .before .before .args .line .now) - (c .before .before .before .before .end-of2 .result + 1)) (drop (c .before .before .before .before .end-of2 .result + 1) (c .before .before .before .before .before .before .before .before .before .args .line .now)))
-    ≡ ownTag (kindNamed (take (c .before .before .before .before .before .end-of .result) (c .before .before .before .before .before .before .before .before .before .args .line .now))) (drop (c .before .before .before .before .end-of2 .result + 1) (c .before .before .before .before .before .before .before .before .before .args .line .now))
-value c = ap₂ ownTag (c .before .before .kind-named .ensures) (all-from (c .before .before .before .before .end-of2 .result + 1) (c .before .before .before .before .before .before .before .before .before .args .line .now))
+fields : (c : tie.After-end-of) → AliasLine (c .before .before .before .before .before .before .args .a .now) (c .before .before .before .before .before .before .args .line .now) (c .before .before .name-of .result .end) (c .end-of .result)
+fields c = alias-line _ _ _ _ (c .before .before .name-of .ensures .0) (c .end-of .ensures) (c .before .before .before .before .before .before .pre .1)
 
 add-from : tie.Need-add-from
 add-from c = omega (arith, fields c .second)
 
-slice-aggregate-kind-named : tie.Need-slice-aggregate-kind-named
-slice-aggregate-kind-named c = let h = fields (c .before) .first in sym (length-take-le _ _ (omega arith))
-
-kind-named-requires : tie.Need-kind-named-requires
-kind-named-requires c κs = search needs
-
 sub-own : tie.Need-sub-own
-sub-own c = omega (arith, fields (c .before .before) .second)
+sub-own c = omega (arith, fields c .second)
 
 part-own-start : tie.Need-part-own-start
-part-own-start c = omega (arith, fields (c .before .before) .second)
+part-own-start c = omega (arith, fields c .second)
 
 part-own-end : tie.Need-part-own-end
 part-own-end c = search needs
@@ -54,27 +45,31 @@ part-own-end c = search needs
 own-requires : tie.Need-own-requires
 own-requires c κs = search needs
 
+-- the value, as the code lends it
+value : (c : tie.After-own)
+    → ownTag (c .before .before .before .before .name-of .result .kind) (take (length (c .before .before .before .before .before .before .before .before .args .line .now) - (c .before .before .end-of .result + 1)) (drop (c .before .before .end-of .result + 1) (c .before .before .before .before .before .before .before .before .args .line .now)))
+    ≡ ownTag (kindNamed (take (c .before .before .before .before .name-of .result .end) (c .before .before .before .before .before .before .before .before .args .line .now))) (drop (c .before .before .end-of .result + 1) (c .before .before .before .before .before .before .before .before .args .line .now))
+value c = ap₂ ownTag (c .before .before .before .before .name-of .ensures .1) (all-from (c .before .before .end-of .result + 1) (c .before .before .before .before .before .before .before .before .args .line .now))
+
 is-key-requires : tie.Need-is-key-requires
 is-key-requires c κs =
-    let e = c .before .before .before .before in
-    (e .before .before .before .before .before .pre .0, rw (c .own .ensures ∙ value c) (fields e .short))
+    let e = c .before .before in
+    (e .before .before .before .before .before .before .pre .0, rw (c .own .ensures ∙ value c) (fields e .short))
 
 returns : tie.Need-returns
 returns c =
     let o = c .before in
-    let e = o .before .before .before .before in
-    ap not (c .is-key .ensures ∙ ap₂ (isKey (e .before .before .before .before .before .args .a .now)) (o .before .before .kind-named .ensures) (o .own .ensures ∙ value o)) ∙ sym (fields e .free)
+    let e = o .before .before in
+    ap not (c .is-key .ensures ∙ ap₂ (isKey (e .before .before .before .before .before .before .args .a .now)) (e .before .before .name-of .ensures .1) (o .own .ensures ∙ value o)) ∙ sym (fields e .free)
 
 pub alias-free-spec : {M : Type 1} → statement M
 alias-free-spec =
     tie.close
     (tie.spec
-    end-of-requires
+    name-of-requires
     add-start
-    end-of-requires-2
+    end-of-requires
     add-from
-    slice-aggregate-kind-named
-    kind-named-requires
     sub-own
     part-own-start
     part-own-end

@@ -9,21 +9,21 @@ use borrow.Author.Needs.{needs}
 use Rattle.verdict.proofs.replaced.value_free.Statement.{statement}
 use Rattle.verdict.proofs.replaced.value_free.Tie as tie
 
-three-of-requires : tie.Need-three-of-requires
-three-of-requires c κs = search needs
+ends-of-requires : tie.Need-ends-of-requires
+ends-of-requires c κs = search needs
 
 slice-aggregate-is-key : tie.Need-slice-aggregate-is-key
-slice-aggregate-is-key c = let t = c .before .three-of .ensures in sym (length-take-le _ _ (omega (arith, t .low, t .high)))
+slice-aggregate-is-key c = let t = c .before .ends-of .ensures in sym (length-take-le _ _ (omega (arith, t .low, t .high)))
 
 is-key-requires : tie.Need-is-key-requires
 is-key-requires c κs =
     let s = c .before .before .before .before .before in
-    (s .pre .0, frees.language-short _ _ (c .before .three-of .ensures) (s .pre .1))
+    (s .pre .0, frees.language-short _ _ (c .before .ends-of .ensures) (s .pre .1))
 
 returns : tie.Need-returns
 returns c =
     let t = c .before .before .before in
-    frees.language-clash _ _ (t .three-of .ensures) (t .before .before .before .before .pre .1) _ (sym (c .before .is-key .ensures) ∙ c .if1 .taken)
+    frees.language-clash _ _ (t .ends-of .ensures) (t .before .before .before .before .pre .1) _ (sym (c .before .is-key .ensures) ∙ c .if1 .taken)
 
 part-requires : tie.Need-part-requires
 part-requires c κs = search needs
@@ -32,7 +32,7 @@ is-key-requires-2 : tie.Need-is-key-requires-2
 is-key-requires-2 c κs =
     let t = c .before .before .before .before in
     let s = t .before .before .before .before in
-    (s .pre .0, rw (c .part .ensures) (frees.script-short _ _ (t .three-of .ensures) (s .pre .1)))
+    (s .pre .0, rw (c .part .ensures) (frees.script-short _ _ (t .ends-of .ensures) (s .pre .1)))
 
 returns-2 : tie.Need-returns-2
 returns-2 c =
@@ -40,7 +40,7 @@ returns-2 c =
     let t = i .before .before .before in
     let s = t .before .before .before .before in
     let a = s .args .a .now in
-    frees.script-clash _ _ (t .three-of .ensures) (s .pre .1) a (sym (i .before .is-key .ensures) ∙ i .if1 .left) (sym (c .before .is-key2 .ensures ∙ ap (isKey a Script) (c .before .before .part .ensures)) ∙ c .if2 .taken)
+    frees.script-clash _ _ (t .ends-of .ensures) (s .pre .1) a (sym (i .before .is-key .ensures) ∙ i .if1 .left) (sym (c .before .is-key2 .ensures ∙ ap (isKey a Script) (c .before .before .part .ensures)) ∙ c .if2 .taken)
 
 part-requires-2 : tie.Need-part-requires-2
 part-requires-2 c κs = search needs
@@ -49,7 +49,7 @@ is-key-requires-3 : tie.Need-is-key-requires-3
 is-key-requires-3 c κs =
     let t = c .before .before .before .before .before .before .before in
     let s = t .before .before .before .before in
-    (s .pre .0, rw (c .part2 .ensures) (frees.region-short _ _ (t .three-of .ensures) (s .pre .1)))
+    (s .pre .0, rw (c .part2 .ensures) (frees.region-short _ _ (t .ends-of .ensures) (s .pre .1)))
 
 returns-3 : tie.Need-returns-3
 returns-3 c =
@@ -58,14 +58,14 @@ returns-3 c =
     let t = i .before .before .before in
     let s = t .before .before .before .before in
     let a = s .args .a .now in
-    frees.region-clash _ _ (t .three-of .ensures) (s .pre .1) a (c .is-key3 .result) (sym (i .before .is-key .ensures) ∙ i .if1 .left) (sym (j .before .is-key2 .ensures ∙ ap (isKey a Script) (j .before .before .part .ensures)) ∙ j .if2 .left)
+    frees.region-clash _ _ (t .ends-of .ensures) (s .pre .1) a (c .is-key3 .result) (sym (i .before .is-key .ensures) ∙ i .if1 .left) (sym (j .before .is-key2 .ensures ∙ ap (isKey a Script) (j .before .before .part .ensures)) ∙ j .if2 .left)
     (c .is-key3 .ensures ∙ ap (isKey a Region) (c .before .part2 .ensures))
 
 pub value-free-spec : {M : Type 1} → statement M
 value-free-spec =
     tie.close
     (tie.spec
-    three-of-requires
+    ends-of-requires
     slice-aggregate-is-key
     is-key-requires
     returns
