@@ -1,5 +1,6 @@
-/* A host program: document 01's examples through the four exported functions. Every lent buffer is a block of its own
- * with guard bytes around it. A refusal must write nothing, a result only its own bytes, and nothing else may change.
+/* A host program: document 01's examples through the four exported functions. Each call is made twice: every lent buffer
+ * is a block of its own, first with guard bytes around it, then of just its length, so that valgrind sees a byte read
+ * outside it. A refusal must write nothing, a result only its own bytes, and nothing else may change.
  * Prints 'N passed, M failed'. */
 #include "altazhbey.h"
 #include <stdio.h>
@@ -16,22 +17,22 @@ static const char PARENTS[] = "en-AU\ten-001\nzh-Hant\tund\n";
 
 static int passed, failed;
 
-/* Bytes lent for a call, with guards; `was` holds the block as it was. */
-typedef struct { uint8_t *block, *was; size_t len; } lent;
+/* Bytes lent for a call, with so many guard bytes before and behind; `was` holds the block as it was. */
+typedef struct { uint8_t *block, *was; size_t len, guard; } lent;
 
-static lent lend(const void *bytes, size_t len) {
-    lent l = {malloc(len + 2 * GUARD), malloc(len + 2 * GUARD), len};
-    if (!l.block || !l.was) exit(2);
-    memset(l.block, 0xA5, len + 2 * GUARD);
-    if (bytes) memcpy(l.block + GUARD, bytes, len);
-    else for (size_t i = 0; i < len; i++) l.block[GUARD + i] = (uint8_t)(i * 7 + 3);
-    memcpy(l.was, l.block, len + 2 * GUARD);
+static lent lend(const void *bytes, size_t len, size_t guard) {
+    lent l = {malloc(len + 2 * guard), malloc(len + 2 * guard), len, guard};
+    if ((!l.block || !l.was) && len + guard) exit(2);
+    memset(l.block, 0xA5, len + 2 * guard);
+    if (bytes) memcpy(l.block + guard, bytes, len);
+    else for (size_t i = 0; i < len; i++) l.block[guard + i] = (uint8_t)(i * 7 + 3);
+    memcpy(l.was, l.block, len + 2 * guard);
     return l;
 }
 
 /* Whether all but the first n lent bytes are as they were. */
 static int kept(const lent *l, size_t n) {
-    return !memcmp(l->block, l->was, GUARD) && !memcmp(l->block + GUARD + n, l->was + GUARD + n, l->len - n + GUARD);
+    return !memcmp(l->block, l->was, l->guard) && !memcmp(l->block + l->guard + n, l->was + l->guard + n, l->len - n + l->guard);
 }
 
 static void give_back(lent *l) {
@@ -42,7 +43,7 @@ static void give_back(lent *l) {
 typedef enum { CANONICALISE, MAXIMISE, MINIMISE, CHAIN } operation;
 
 static uint64_t call(operation o, const lent *id, const lent *a, const lent *l, const lent *p, const lent *out) {
-#define LENT(x) (x)->block + GUARD, (x)->len
+#define LENT(x) (x)->block + (x)->guard, (x)->len
     switch (o) {
     case CANONICALISE: return altazhbey_canonicalise(LENT(id), LENT(a), LENT(out));
     case MAXIMISE: return altazhbey_maximise(LENT(id), LENT(a), LENT(l), LENT(out));
@@ -57,14 +58,14 @@ typedef struct { part aliases, likely, parents; } tables;
 static const tables EXAMPLES = {{ALIASES, sizeof ALIASES - 1}, {LIKELY, sizeof LIKELY - 1}, {PARENTS, sizeof PARENTS - 1}};
 
 /* One call: the whole answer and all of the lent bytes, held against what is expected. */
-static void expect(operation o, part id, tables t, size_t room, unsigned number, unsigned table, size_t place, const char *result, unsigned steps) {
-    lent i = lend(id.bytes, id.len), a = lend(t.aliases.bytes, t.aliases.len), l = lend(t.likely.bytes, t.likely.len);
-    lent p = lend(t.parents.bytes, t.parents.len), out = lend(NULL, room);
+static void expect_with(size_t guard, operation o, part id, tables t, size_t room, unsigned number, unsigned table, size_t place, const char *result, unsigned steps) {
+    lent i = lend(id.bytes, id.len, guard), a = lend(t.aliases.bytes, t.aliases.len, guard);
+    lent l = lend(t.likely.bytes, t.likely.len, guard), p = lend(t.parents.bytes, t.parents.len, guard), out = lend(NULL, room, guard);
     uint64_t r = call(o, &i, &a, &l, &p, &out);
     size_t len = number == 0 ? strlen(result) : 0;
     int good = altazhbey_number(r) == number && altazhbey_table(r) == table && altazhbey_place(r) == place &&
                altazhbey_length(r) == len && altazhbey_steps(r) == steps && len <= room &&
-               !memcmp(out.block + GUARD, result, len) && kept(&out, len) && kept(&i, 0) && kept(&a, 0) && kept(&l, 0) && kept(&p, 0);
+               !memcmp(out.block + guard, result, len) && kept(&out, len) && kept(&i, 0) && kept(&a, 0) && kept(&l, 0) && kept(&p, 0);
     if (good) passed++;
     else {
         failed++;
@@ -72,6 +73,11 @@ static void expect(operation o, part id, tables t, size_t room, unsigned number,
                (const char *)id.bytes, altazhbey_number(r), altazhbey_table(r), altazhbey_place(r), altazhbey_length(r), altazhbey_steps(r));
     }
     give_back(&i), give_back(&a), give_back(&l), give_back(&p), give_back(&out);
+}
+
+static void expect(operation o, part id, tables t, size_t room, unsigned number, unsigned table, size_t place, const char *result, unsigned steps) {
+    expect_with(GUARD, o, id, t, room, number, table, place, result, steps);
+    expect_with(0, o, id, t, room, number, table, place, result, steps);
 }
 
 static part text(const char *s) { return (part){s, strlen(s)}; }

@@ -13,7 +13,7 @@ pub struct Month {
     pub orders: [Vec<u8>; 4],
 }
 
-/// A month over the tables given, or over small good ones, or, one in 8, over
+/// A month over the tables given, or over small good ones, or, one in 4, over
 /// tables that are bad or missing.
 pub fn month(seed: u64, aliases: &[u8], likely: &[u8]) -> Month {
     let rng = &mut Rng::new(seed ^ 0xB111);

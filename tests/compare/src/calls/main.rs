@@ -42,7 +42,9 @@ fn main() {
     random::small_tables(&mut tally, 14_000);
     random::large_tables(&mut tally, 50);
     random::published_tables(&mut tally, &draw::Published::read(), 8_000);
-    println!("{} calls compared", tally.numbers.values().sum::<usize>());
+    let calls = tally.numbers.values().sum::<usize>();
+    println!("{calls} calls compared");
+    assert!(calls >= 1_000_000, "too few calls");
     lists::demand3(&mut tally, 2_000);
     tally.end(&(0..=14).collect::<Vec<u8>>());
 }
