@@ -64,7 +64,7 @@ static double reading(text id) {
     return best(read_asked) / 1000;
 }
 
-/* The best of five passes over the identifiers, each so many times. */
+/* The best of two passes over the identifiers, each so many times. */
 static double passes(uint8_t operation, const text *of, size_t count, uint32_t times) {
     const file *other = operation == CHAIN ? &parents : &likely;
     double least = 1e18;

@@ -84,13 +84,13 @@ double seconds(const std::vector<std::string> &identifiers, Function make, long 
     return std::chrono::duration<double>(std::chrono::steady_clock::now() - start).count();
 }
 
-// The best of five measures of about half a second each.
+// The best of two measures of about half a second each.
 double nanoseconds(const std::vector<std::string> &identifiers, Function make) {
     seconds(identifiers, make, 1);
     double once = seconds(identifiers, make, 1);
     long passes = once < 0.5 ? static_cast<long>(0.5 / once) + 1 : 1;
     double best = seconds(identifiers, make, passes);
-    for (int again = 1; again < 5; again++) {
+    for (int again = 1; again < 2; again++) {
         double taken = seconds(identifiers, make, passes);
         best = taken < best ? taken : best;
     }

@@ -3,8 +3,9 @@
 
     table.py MEASURED
 
-MEASURED has lines of a column, a row and nanoseconds, parted by tabs. Beside them
-stand how many times faster ours is than each peer, and the goal from goals.tsv.
+MEASURED has lines of a column, a row and nanoseconds, parted by tabs; of several with
+one column and row the least counts. Beside them stand the greatest of ours, how many
+times faster ours is than each peer, and the goal from goals.tsv.
 """
 
 import sys
@@ -31,19 +32,20 @@ def main():
     goals = dict(fields(Path(__file__).with_name("goals.tsv")))
     rows = {}
     for column, row, nanoseconds in fields(sys.argv[1]):
-        rows.setdefault(row, {})[column] = float(nanoseconds)
-    table = [["nanoseconds", *COLUMNS, "ICU : ours", "unic : ours", "goal"]]
-    for row, measured in rows.items():
-        ours, icu, unic = (measured.get(column) for column in COLUMNS)
-        numbers = [shown(ours), shown(icu), shown(unic), ratio(ours, icu), ratio(ours, unic)]
+        rows.setdefault(row, {}).setdefault(column, []).append(float(nanoseconds))
+    table = [["nanoseconds", "ours", "slowest round", "ICU", "unic-langid", "ICU : ours", "unic : ours", "goal"]]
+    for row, rounds in rows.items():
+        ours, icu, unic = (min(rounds[column]) if column in rounds else None for column in COLUMNS)
+        slowest = max(rounds["ours"]) if "ours" in rounds else None
+        numbers = [shown(ours), shown(slowest), shown(icu), shown(unic), ratio(ours, icu), ratio(ours, unic)]
         table.append([row, *numbers, goals.get(row, "")])
     widths = [max(map(len, column)) for column in zip(*table)]
     for row, *numbers, goal in table:
         cells = [row.ljust(widths[0]), *(n.rjust(w) for n, w in zip(numbers, widths[1:])), goal]
         print("  ".join(cells).rstrip())
-    for row, measured in rows.items():
+    for row, rounds in rows.items():
         if row.startswith("keys"):
-            print(f"{row}:", *(f"{name} {1e9 / taken:,.0f} lines a second" for name, taken in measured.items()), sep="\t")
+            print(f"{row}:", *(f"{name} {1e9 / min(taken):,.0f} lines a second" for name, taken in rounds.items()), sep="\t")
 
 
 if __name__ == "__main__":

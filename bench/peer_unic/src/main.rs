@@ -53,11 +53,11 @@ fn seconds(
     start.elapsed().as_secs_f64()
 }
 
-/// The best of five measures of about half a second each.
+/// The best of two measures of about half a second each.
 fn nanoseconds(identifiers: &[&[u8]], operation: impl Fn(&mut LanguageIdentifier) + Copy) -> f64 {
     seconds(identifiers, operation, 10);
     let passes = (0.5 / (seconds(identifiers, operation, 10) / 10.0)) as u64 + 1;
-    let measures = (0..5).map(|_| seconds(identifiers, operation, passes));
+    let measures = (0..2).map(|_| seconds(identifiers, operation, passes));
     measures.fold(f64::INFINITY, f64::min) * 1e9 / (passes as f64 * identifiers.len() as f64)
 }
 
