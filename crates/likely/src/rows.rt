@@ -91,8 +91,8 @@ fn find_shorter<'a>(
     find(likely, hints, language, none, none, found)
 }
 
-// The value of the first row for the parts, as a part of the lent table. Where script or region is missing, the forms
-// that name it are skipped: they would be looked up again.
+// The value of the first row for the parts, as a part of the lent table. Where script or region is missing, the key of
+// the language alone is all that is left to try.
 pub fn find_row<'a>(
     likely: &'a [u8],
     hints: &[u16],

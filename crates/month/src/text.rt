@@ -1,4 +1,5 @@
-// The text of a bill: its header, a row for each key, and the refused lines; or only the number of its refusal.
+// The text of a bill: its header, a row for each key, and the refused lines; or only the `table` line of a bad table, or
+// the number of its refusal.
 use crate::Counts;
 use fields::put;
 use fields::put_number;

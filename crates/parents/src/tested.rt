@@ -1,4 +1,4 @@
-// The chain of parents over tables that were tested. The public operation and the programs come through here.
+// The chain of parents over tables that were tested. The public operation comes through here.
 use crate::lines::Listed;
 use crate::lines::list;
 use canonical::buffer::buffer;

@@ -104,6 +104,7 @@ fn first_state(t: Subtag) -> State
     if subtag::is_language(t) {
         return State::Main(Stage::Language);
     }
+    // the number of `root`
     if t.key == 8245931986745556992 {
         return State::Main(Stage::Root);
     }
