@@ -19,7 +19,7 @@ use Rattle.standard.proofs.Table.{shaped-tables}
 use Rattle.reader.specs.Parts.{partsOf}
 use Rattle.table.specs.Lines.{endOf}
 use Rattle.canonical.specs.declared.three.Ends.{Ends}
-use Rattle.canonical.specs.Section.{led}
+use Rattle.arranging.specs.Section.{led}
 use Rattle.canonical.specs.Alias.{replacedBy, aliasedPart}
 use Rattle.rows.specs.Shapes.{scriptEnd}
 use Rattle.canonical.specs.Three.{endsOf, afterSeparator, scriptStart, partBytes, languageLookup, languageWord, canonicalThree}

@@ -18,11 +18,11 @@ use Rattle.standard.proofs.Bytes.{bool-cases}
 use Rattle.standard.proofs.Arranged.{firstOf-none}
 use Rattle.reader.specs.Cuts.{Cuts, cutsAfter, cutsOf}
 use Rattle.subtag.specs.Bytes.{tidyByte}
-use Rattle.canonical.specs.Section.{tagsOf, led, Led, Plain}
+use Rattle.arranging.specs.Section.{tagsOf, led, Led, Plain}
 use Rattle.subtag.proofs.Walk.{label-fits}
-use Rattle.canonical.proofs.Walk.{tidied, section-bytes, Rest, split-rest}
-use Rattle.canonical.proofs.Pending.{grouped-all, map-take}
-use Rattle.canonical.proofs.Boundary.{parted, plain-parts}
+use Rattle.arranging.proofs.Walk.{tidied, section-bytes, Rest, split-rest}
+use Rattle.arranging.proofs.Pending.{grouped-all, map-take}
+use Rattle.arranging.proofs.Boundary.{parted, plain-parts}
 use Rattle.canonical.proofs.Print.{up-to}
 use Rattle.canonical.proofs.Again.{plain-read}
 use Rattle.reader.proofs.Stages.{Others, Region, after-script, after-language, after-root, region-left}

@@ -26,11 +26,11 @@ use Rattle.reader.specs.Cuts.{cutsOf}
 use Rattle.reader.specs.Parts.{partsOf}
 use Rattle.canonical.specs.declared.three.Ends.{Ends}
 use Rattle.canonical.specs.declared.form.Form.{Form}
-use Rattle.canonical.specs.Section.{tagsOf, led, Led, Plain, Each, Arrangeable, isHead, arrangedTags}
+use Rattle.arranging.specs.Section.{tagsOf, led, Led, Plain, Each, Arrangeable, isHead, arrangedTags}
 use Rattle.canonical.specs.Three.{endsOf, canonicalThree}
 use Rattle.canonical.specs.Variants.{EachVariant}
 use Rattle.canonical.specs.Form.{formOf, hyphens, accepted}
-use Rattle.canonical.proofs.Walk.{section-bytes}
+use Rattle.arranging.proofs.Walk.{section-bytes}
 use Rattle.canonical.proofs.Print.{print-led, arranged}
 use Rattle.canonical.proofs.Again.{AllLow}
 use Rattle.canonical.proofs.Keyed.{rest-of}

@@ -13,7 +13,7 @@ use Rattle.standard.specs.Table.{lookup, rows, located}
 use Rattle.table.specs.Lines.{valueOf}
 use Rattle.table.proofs.Lines.{lookup-located}
 use Rattle.subtag.proofs.Stores.{sets-append}
-use Rattle.canonical.specs.Section.{led}
+use Rattle.arranging.specs.Section.{led}
 use Rattle.canonical.specs.Alias.{replacedBy, aliasedPart}
 
 -- what a lookup answers, in place of the subtag

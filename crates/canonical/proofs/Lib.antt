@@ -1,15 +1,3 @@
-pub mod Selection
-pub mod Walk
-pub mod Picks
-pub mod Judged
-pub mod Keys
-pub mod Pending
-pub mod Trim
-pub mod Writes
-pub mod Boundary
-pub mod Arranging
-pub mod Tests
-pub mod Fields
 pub mod Print
 pub mod Again
 pub mod Cuts

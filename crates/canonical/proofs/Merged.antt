@@ -19,14 +19,14 @@ use Rattle.standard.proofs.Sound.{ofKind-eq}
 use Rattle.standard.proofs.Table.{shaped-tables}
 use Rattle.subtag.specs.Subtags.{PlainTag}
 use Rattle.subtag.proofs.Keys.{word-plain}
-use Rattle.canonical.specs.Section.{tagsOf, led, Led, Plain, sortedBytes}
+use Rattle.arranging.specs.Section.{tagsOf, led, Led, Plain, sortedBytes}
 use Rattle.canonical.specs.Alias.{aliasedPart}
 use Rattle.canonical.specs.Variants.{resolved, EachVariant}
-use Rattle.canonical.proofs.Pending.{led-append, section-size}
-use Rattle.canonical.proofs.Boundary.{sorted-ones}
-use Rattle.canonical.proofs.Writes.{sorted-fits}
+use Rattle.arranging.proofs.Pending.{led-append, section-size}
+use Rattle.arranging.proofs.Boundary.{sorted-ones}
+use Rattle.arranging.proofs.Writes.{sorted-fits}
 use Rattle.canonical.proofs.Again.{Low, AllLow, led-begins, tags-led}
-use Rattle.canonical.proofs.Walk.{tags-end}
+use Rattle.arranging.proofs.Walk.{tags-end}
 use Rattle.canonical.proofs.Keyed.{front-in}
 use Rattle.canonical.proofs.Words.{aliases-passed}
 use Rattle.canonical.proofs.Cores.{aliased-part}

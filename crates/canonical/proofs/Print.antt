@@ -11,8 +11,8 @@ use Rattle.standard.specs.Grammar.{oneSize, sizeOf, isSingleton, Groups, withTa
 use Rattle.standard.specs.Identifier.{Identifier}
 use Rattle.standard.specs.Reading.{optional, rest, tags, joined, print, upTo, from}
 use Rattle.subtag.specs.Subtags.{PlainTag}
-use Rattle.canonical.specs.Section.{tagsOf, led, Plain, isHead, arrangedTags}
-use Rattle.canonical.proofs.Pending.{led-append, grouped-all}
+use Rattle.arranging.specs.Section.{tagsOf, led, Plain, isHead, arrangedTags}
+use Rattle.arranging.proofs.Pending.{led-append, grouped-all}
 
 pub joined-led : (t : Tag) (ts : List Tag) → joined (t ∷ ts) ≡ t ++ led ts
 unfolding joined led

@@ -12,12 +12,12 @@ use Rattle.subtag.specs.declared.Subtag.{Subtag}
 use Rattle.subtag.specs.Bytes.{tidyByte, raised}
 use Rattle.subtag.specs.Subtags.{subtagOf, PlainTag}
 use Rattle.subtag.proofs.Stores.{sets-append}
-use Rattle.canonical.specs.Section.{tagsOf, led, Led, Plain}
+use Rattle.arranging.specs.Section.{tagsOf, led, Led, Plain}
 use Rattle.canonical.specs.Alias.{aliasedPart}
 use Rattle.canonical.specs.Variants.{resolved}
-use Rattle.canonical.proofs.Walk.{tidied, tags-end}
-use Rattle.canonical.proofs.Picks.{Stepped, stepped}
-use Rattle.canonical.proofs.Pending.{map-take}
+use Rattle.arranging.proofs.Walk.{tidied, tags-end}
+use Rattle.arranging.proofs.Picks.{Stepped, stepped}
+use Rattle.arranging.proofs.Pending.{map-take}
 
 -- the bytes of the subtag at the front
 pub front-tidy : (y : List ℕ) (n : ℕ) → n ≡ length (label (split y)) → map tidyByte (take n y) ≡ label (split y)

@@ -22,12 +22,12 @@ use Rattle.standard.proofs.Sound.{shown-none}
 use Rattle.standard.proofs.Table.{Passed, passed, three-shaped, three-printed, language-value}
 use Rattle.subtag.proofs.Walk.{le-or-lt}
 use Rattle.table.specs.Lines.{endOf}
-use Rattle.canonical.specs.Section.{led}
+use Rattle.arranging.specs.Section.{led}
 use Rattle.canonical.specs.Alias.{replacedBy}
 use Rattle.rows.specs.Shapes.{scriptEnd}
 use Rattle.rows.proofs.Ends.{script-ends}
 use Rattle.canonical.specs.Three.{between, afterSeparator}
-use Rattle.canonical.proofs.Pending.{led-append}
+use Rattle.arranging.proofs.Pending.{led-append}
 use Rattle.canonical.proofs.Print.{joined-led}
 use Rattle.canonical.proofs.Places.{behind, at-once}
 

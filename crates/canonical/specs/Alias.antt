@@ -5,7 +5,7 @@ use Prim.Native.Nat.{ℕ}
 use Rattle.standard.specs.Tag.{Tag}
 use Rattle.standard.specs.Reading.{optional}
 use Rattle.standard.specs.Table.{lookup, rows}
-use Rattle.canonical.specs.Section.{led}
+use Rattle.arranging.specs.Section.{led}
 
 -- a row's value in place of the subtag
 unfoldable pub replacedBy : Option (List ℕ) → Tag → Tag

@@ -1,5 +1,3 @@
-pub mod Section
-pub mod Judged
 pub mod Alias
 pub mod Three
 pub mod Tested

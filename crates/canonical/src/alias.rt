@@ -12,7 +12,7 @@ ghost use Rattle.subtag.specs.Bytes.{tidyByte, raised};
 ghost use Rattle.standard.specs.Reading.{optional};
 ghost use Rattle.standard.specs.Table.{lookup, rows};
 ghost use Rattle.table.specs.Hints.{Indexed};
-ghost use Rattle.canonical.specs.Section.{led};
+ghost use Rattle.arranging.specs.Section.{led};
 ghost use Rattle.canonical.specs.Alias.{replacedBy, aliasedPart};
 
 // Writes the given subtag in its case, or where none is given the one that an alias brought in.

@@ -1,8 +1,8 @@
 // The canonical form of an identifier over aliases that were tested, in a lent buffer. The public operations of this
 // crate and of those above it come through here; none of them tests a table twice.
-use crate::extensions::write_extensions;
 use crate::three::write_three;
 use crate::variants::write_variants;
+use arranging::extensions::write_extensions;
 use reader::Parts;
 use reader::Reading;
 use reader::read_parts;

@@ -22,11 +22,7 @@ ghost use Rattle.canonical.specs.Answer.{answerOf};
 mod alias;
 pub mod buffer;
 pub mod delivery;
-mod extensions;
 pub mod form;
-mod heads;
-mod section;
-mod sorted;
 mod three;
 mod variants;
 

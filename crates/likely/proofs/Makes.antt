@@ -19,7 +19,7 @@ use Rattle.standard.proofs.Bytes.{clash}
 use Rattle.standard.proofs.Faults.{Maybe}
 use Rattle.standard.proofs.Round.{Shown, Shaped, Printable, length-print}
 use Rattle.standard.proofs.Core.{Full}
-use Rattle.canonical.specs.Section.{led}
+use Rattle.arranging.specs.Section.{led}
 use Rattle.canonical.proofs.Print.{print-led}
 use Rattle.likely.specs.Parts.{ledPart, Parts, partsOf, joinedParts, knownParts, fillParts}
 use Rattle.likely.specs.Forms.{shortForm, bytesOf, keptIf, madeOf, madeFilled, madeParts}

@@ -28,7 +28,7 @@ use Rattle.standard.proofs.Whole.{same-canonical, narrow-parents}
 use Rattle.canonical.proofs.form.Canon.{the-type}
 use Rattle.canonical.specs.declared.form.Form.{Form}
 use Rattle.canonical.specs.declared.form.Canon.{Canon}
-use Rattle.canonical.specs.Section.{led}
+use Rattle.arranging.specs.Section.{led}
 use Rattle.canonical.specs.Form.{refusal as refused-as, formOf, formed, canonicalOf, outcomeOf, outcome}
 use Rattle.canonical.proofs.Print.{print-led}
 use Rattle.canonical.specs.Answer.{givenRefused}

@@ -7,7 +7,7 @@ use Prim.Native.Nat.{ℕ, _+_}
 use lib.ListN.{length, set, length-set}
 use lib.Seq.{sets}
 use Rattle.standard.specs.Reading.{optional}
-use Rattle.canonical.specs.Section.{led}
+use Rattle.arranging.specs.Section.{led}
 use Rattle.canonical.proofs.Keyed as keys
 use borrow.Author.Needs.{needs}
 use Rattle.canonical.proofs.alias.put_led.Statement.{statement}

@@ -9,7 +9,7 @@ use Rattle.standard.specs.Tag.{Tag, pick}
 use Rattle.standard.specs.Reading.{optional}
 use Rattle.standard.specs.Table.{lookup, rows}
 use Rattle.subtag.specs.Bytes.{tidyByte, raised as raisedTag}
-use Rattle.canonical.specs.Section.{led}
+use Rattle.arranging.specs.Section.{led}
 use Rattle.canonical.specs.Alias.{replacedBy, aliasedPart}
 use Rattle.canonical.proofs.Raised as raised
 use Rattle.canonical.proofs.Keyed as keys

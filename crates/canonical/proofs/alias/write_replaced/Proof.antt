@@ -7,7 +7,7 @@ use lib.ListN.{length, take, drop}
 use lib.Seq.{sets}
 use Rattle.standard.specs.Reading.{optional}
 use Rattle.standard.specs.Table.{lookup, rows}
-use Rattle.canonical.specs.Section.{led}
+use Rattle.arranging.specs.Section.{led}
 use Rattle.canonical.specs.Alias.{replacedBy}
 use Rattle.canonical.proofs.Keyed as keys
 use borrow.Author.Needs.{needs}

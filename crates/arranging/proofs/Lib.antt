@@ -1,0 +1,12 @@
+pub mod Selection
+pub mod Walk
+pub mod Picks
+pub mod Judged
+pub mod Keys
+pub mod Pending
+pub mod Trim
+pub mod Writes
+pub mod Boundary
+pub mod Arranging
+pub mod Tests
+pub mod Fields
