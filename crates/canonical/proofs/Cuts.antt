@@ -1,6 +1,5 @@
 -- The parts of an accepted identifier, by the places where they end. Assumes nothing.
 use mathlib.Core.Path.{_≡_, refl, sym, ap, ap₂, _∙_, subst}
-use mathlib.Core.Bool.{true, false}
 use mathlib.Core.List.{List, [], _∷_, _++_, map, append-assoc, append-nil, tail-eq-of-cons-eq}
 use mathlib.Core.Option.{none, Option·some-ne-none}
 use Prim.Native.Nat.{ℕ, suc, _+_, _-_, _≤_, _<_}
@@ -10,10 +9,10 @@ use lib.Dec.{leb}
 use lib.ListN.{length, getD, take, drop, length-append, length-drop}
 use lib.Seq.{drop-drop, take-at, length-take-le, drop-cons}
 use borrow.Author.Tests.{leb-true}
-use Rattle.standard.specs.Tag.{Tag, same, label}
-use Rattle.standard.specs.Grammar.{Kind, aScript, aRegion, aVariant, aNone, kindOf, isLanguage, isVariant, isSingleton, Groups, grouped, flat, only}
+use Rattle.standard.specs.Tag.{Tag, label}
+use Rattle.standard.specs.Grammar.{aScript, aRegion, isVariant, isSingleton, Groups, grouped, flat, only}
 use Rattle.standard.specs.Identifier.{Identifier, part, parts}
-use Rattle.standard.specs.Reading.{optional, split, noBytes, tooLong, unclean, badTag, wrongSize, root, start, partFault, isX, upTo, from, noLanguage, grammarFault, faultOf, find, afterFirst, identifierOf}
+use Rattle.standard.specs.Reading.{optional, split, noBytes, tooLong, unclean, badTag, wrongSize, start, partFault, isX, upTo, from, noLanguage, grammarFault, faultOf, find, afterFirst, identifierOf}
 use Rattle.standard.proofs.Bytes.{bool-cases}
 use Rattle.standard.proofs.Arranged.{firstOf-none}
 use Rattle.reader.specs.Cuts.{Cuts, cutsAfter, cutsOf}
@@ -21,11 +20,11 @@ use Rattle.subtag.specs.Bytes.{tidyByte}
 use Rattle.arranging.specs.Section.{tagsOf, led, Led, Plain}
 use Rattle.subtag.proofs.Walk.{label-fits}
 use Rattle.arranging.proofs.Walk.{tidied, section-bytes, Rest, split-rest}
-use Rattle.arranging.proofs.Pending.{grouped-all, map-take}
+use Rattle.arranging.proofs.Pending.{map-take}
 use Rattle.arranging.proofs.Boundary.{parted, plain-parts}
-use Rattle.canonical.proofs.Print.{up-to}
 use Rattle.canonical.proofs.Again.{plain-read}
-use Rattle.reader.proofs.Stages.{Others, Region, after-script, after-language, after-root, region-left}
+use Rattle.reader.proofs.Bodies.{body, heads}
+use Rattle.reader.proofs.Accepted.{Core, core-of, all-tags, has-first, others-of}
 
 -- The length of a section.
 pub parts-led : (ts : List Tag) → parts ts ≡ length (led ts)
@@ -119,30 +118,6 @@ firstTag x = label ((grouped isSingleton (upTo isX (split x))) .before)
 abbrev pub otherTags : List ℕ → List Tag
 otherTags x = afterFirst ((grouped isSingleton (upTo isX (split x))) .before)
 
--- a language part without a fault: a language, or root and nothing else, or a script
-pub data Core (first : Tag) (others : List Tag) : Type 0 where
-  a-language : isLanguage first ≡ true → Others others → Core first others
-  the-root : isLanguage first ≡ false → same first root ≡ true → others ≡ [] → Core first others
-  a-script : isLanguage first ≡ false → same first root ≡ false → kindOf first ≡ aScript → Region others → Core first others
-
-core-read : (t : Tag) (ts : List Tag) → partFault start 0 (t ∷ ts) ≡ none → Core t ts
-unfolding partFault start
-core-read t ts e =
-    bool-cases (isLanguage t) (λ f. a-language f (after-language [] _ ts (rw (f, start, partFault) at e)))
-    (λ f. bool-cases (same t root) (λ g. the-root f g (after-root [] _ ts (rw (f, g, start, partFault) at e))) (λ g. go f g (kindOf t) refl))
-  where
-    go : isLanguage t ≡ false → same t root ≡ false → (k : Kind) → kindOf t ≡ k → Core t ts
-    go f g aScript q = a-script f g q (after-script [] _ ts (rw (f, g, q, start, partFault) at e))
-    go f g aRegion q = absurd (Option·some-ne-none _ (rw (f, g, q, start, partFault) at e))
-    go f g aVariant q = absurd (Option·some-ne-none _ (rw (f, g, q, start, partFault) at e))
-    go f g aNone q = absurd (Option·some-ne-none _ (rw (f, g, q, start, partFault) at e))
-
-others-of : (t : Tag) (ts : List Tag) → Core t ts → Others ts
-unfolding find only optional
-others-of t ts (a-language f o) = o
-others-of t ts (the-root f g o) = rw o
-others-of t ts (a-script f g q r) = region-left ts r
-
 -- Where the parts stand.
 pub record Parts (x : List ℕ) (c : Cuts) (i : Identifier) : Type 0 where
   pub first-fits : length (firstTag x) ≤ length x
@@ -153,27 +128,16 @@ pub record Parts (x : List ℕ) (c : Cuts) (i : Identifier) : Type 0 where
   pub variants : Cut x (c .region) (c .variants) (i .variants) (flat (i .extensions) ++ i .private)
   pub extensions : Cut x (c .variants) (c .extensions) (flat (i .extensions)) (i .private)
 
-filled : (ts : List Tag) → noLanguage ts ≡ none → ts ≡ label ts ∷ afterFirst ts
-unfolding noLanguage label afterFirst
-filled [] e = absurd (Option·some-ne-none _ e)
-filled (t ∷ ts) e = refl
-
--- the language part, the extensions and private use are all of the subtags
-all-tags : (ts : List Tag) → ts ≡ (grouped isSingleton (upTo isX ts)) .before ++ (flat ((grouped isSingleton (upTo isX ts)) .groups) ++ from isX ts)
-all-tags ts =
-    let g = grouped isSingleton (upTo isX ts) in
-    grouped-all isX ts ∙ ap₂ (λ (a b : List Tag). a ++ b) (sym ((up-to isX ts) .0)) (sym ((up-to isX ts) .1)) ∙ ap (λ (a : List Tag). a ++ from isX ts) (grouped-all isSingleton (upTo isX ts))
-    ∙ append-assoc (g .before) (flat (g .groups)) (from isX ts)
-
 module _ (x : List ℕ) (a : Accepted x) where
   abbrev pub G : Groups
   G = grouped isSingleton (upTo isX (split x))
 
   tags-are : split x ≡ firstTag x ∷ (otherTags x ++ (flat (G .groups) ++ from isX (split x)))
-  tags-are = all-tags (split x) ∙ ap (λ (b : List Tag). b ++ (flat (G .groups) ++ from isX (split x))) (filled (G .before) (a .language))
+  unfolding body heads
+  tags-are = all-tags (split x) ∙ ap (λ (b : List Tag). b ++ (flat (G .groups) ++ from isX (split x))) (has-first (G .before) (a .language))
 
   pub before-is : G .before ≡ firstTag x ∷ otherTags x
-  before-is = filled (G .before) (a .language)
+  before-is = has-first (G .before) (a .language)
 
   pub first-is : label (split x) ≡ firstTag x
   unfolding label
@@ -184,7 +148,7 @@ module _ (x : List ℕ) (a : Accepted x) where
   after-is = ap afterFirst tags-are
 
   core-is : Core (firstTag x) (otherTags x)
-  core-is = core-read (firstTag x) (otherTags x) (rw (filled (G .before) (a .language)) at (a .core))
+  core-is = core-of (firstTag x) (otherTags x) (rw (has-first (G .before) (a .language)) at (a .core))
 
   rest-is : Rest x (drop (length (firstTag x)) x)
   rest-is = rw first-is at (split-rest x)

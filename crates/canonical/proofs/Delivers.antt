@@ -1,8 +1,8 @@
 -- Laws of delivery; and what canonicalising over tested aliases makes. Assumes nothing.
 use mathlib.Core.Path.{_≡_, refl, sym, ap, _∙_}
-use mathlib.Core.Bool.{true, false}
+use mathlib.Core.Bool.{false}
 use mathlib.Core.List.{List, [], _∷_, _++_}
-use mathlib.Core.Option.{Option, none, some}
+use mathlib.Core.Option.{Option, none}
 use Prim.Native.Nat.{ℕ, _+_, _≤_, _<_}
 use native.Mathlib.Omega.{arith}
 use lib.ListN.{length, take, drop}
@@ -12,10 +12,10 @@ use types.Run.{OneOf}
 use denote.Enum.Declared.{tagOf}
 use Rattle.standard.specs.Delivery.{Made, result, refusal as refusalMade, given}
 use Rattle.standard.specs.Identifier.{Answer as StandardAnswer, done, refused, canonical}
-use Rattle.standard.specs.Reading.{Fault, Read, good, bad, read}
+use Rattle.standard.specs.Reading.{Read, good, bad, read}
 use Rattle.standard.specs.Calls.{canonicalise}
-use Rattle.standard.proofs.Table.{firstTable-none}
-use Rattle.standard.specs.Table.{tablesOf, TableFault, inTable, check}
+use Rattle.standard.proofs.Table.{firstTable-none, inTable-none}
+use Rattle.standard.specs.Table.{tablesOf, TableFault, check}
 use Rattle.standard.specs.Make.{made, operate, makeOf, make, afterCheck, canonicaliseMade}
 use Rattle.rows.specs.declared.Table.the-variants.{Aliases}
 use Rattle.rows.specs.Rows.{shapeOf}
@@ -80,11 +80,6 @@ unfolding outcomeOf madeOf
 form-delivered A x b out out′ c f r e g h = h ∙ ap (λ (o : Outcome). given (madeOf o) out) (sym (ap (λ (d : Canon). outcomeOf d b) e) ∙ g) ∙ ap (λ (m : Made). given m out) (made-outcome A x)
 
 -- Aliases that passed the check ascend.
-in-none : (n : ℕ) (o : Option Fault) → inTable true n o ≡ none → o ≡ none
-unfolding inTable
-in-none n none e = refl
-in-none n (some f) e = absurd (let z : _≡_ {A = ℕ} 0 1 = cc in omega arith)
-
 pub tested : (A : List ℕ) → check false false A [] [] ≡ none → Tested A
 unfolding check shapeOf
 tested A e =
@@ -92,7 +87,7 @@ tested A e =
     let f₂ = firstTable-none _ _ (f₁ .1) in
     let f₃ = firstTable-none _ _ (f₂ .1) in
     let f₄ = firstTable-none _ _ (f₃ .1) in
-    record { passes = e; sorted = sorted-rows.sorted Aliases A (in-none 1 _ (f₄ .0)) }
+    record { passes = e; sorted = sorted-rows.sorted Aliases A (inTable-none 1 _ (f₄ .0)) }
 
 pub tested-with : (A hints : List ℕ) → check false false A [] [] ≡ none → Hinted A hints → TestedWith A hints
 tested-with A hints e h = record { passes = e; indexed = record { sorted = (tested A e) .sorted; hinted = h } }

@@ -23,11 +23,12 @@ use Rattle.reader.specs.declared.Start.{Start}
 use Rattle.reader.specs.declared.Start.the-variants.{Language, Script, Root}
 use Rattle.reader.specs.Cuts.{Cuts, languageCut, cutsAfter, cutsOf}
 use Rattle.reader.specs.Parts.{startOf, partsOf}
+use Rattle.reader.proofs.Accepted.{Core, of-language, of-root, of-script}
 use Rattle.arranging.specs.Section.{led, Plain}
 use Rattle.canonical.specs.Three.{between, afterSeparator, scriptStart, languageLookup}
 use Rattle.subtag.proofs.Raised.{raised-title, raised-upper}
 use Rattle.canonical.proofs.Places.{behind, at-once, start-first, start-later}
-use Rattle.canonical.proofs.Cuts.{Cut, cut-one, Accepted, accepted, firstTag, otherTags, Core, a-language, the-root, a-script, Parts, parts-at, first-is, before-is}
+use Rattle.canonical.proofs.Cuts.{Cut, cut-one, Accepted, accepted, firstTag, otherTags, Parts, parts-at, first-is, before-is}
 
 -- a section of one subtag, or of none
 led-short : (t : Tag) → length (led (optional t)) ≡ 0 → t ≡ []
@@ -194,13 +195,13 @@ module _ (x : List ℕ) (a : Accepted x) where
 
   given-core : Core (firstTag x) (otherTags x) → Given x (c .language) (c .script) (c .region) (coreOf (firstTag x ∷ otherTags x))
   unfolding find title upper
-  given-core (a-language f o) =
+  given-core (of-language f o) =
       let w = later (cut-language (firstTag x) (otherTags x) f) (language-filled (firstTag x) f) in
       rw (core-language (firstTag x) (otherTags x) f) (give _ (w .rises) (w .small) (w .text) refl)
-  given-core (the-root f g o) =
+  given-core (of-root f g o) =
       let w = later (cut-root (firstTag x) (otherTags x) f g) (root-filled (firstTag x) g) in
       rw (core-root (firstTag x) (otherTags x) f g) (give _ (w .rises) (w .small) (w .text ∙ ap (λ (ts : List Tag). title (find aScript ts)) o) (ap (λ (ts : List Tag). upper (find aRegion ts)) o))
-  given-core (a-script f g q r) =
+  given-core (of-script f g r) =
       let l : c .language ≡ 0 = cut-is ∙ cut-script (firstTag x) (otherTags x) f g in
       let s : scriptStart (c .language) (c .script) ≡ 0 = start-first (c .language) (c .script) l in
       let z : c .script - 0 ≡ length (firstTag x) = omega (arith, script-cut, no-part (find aScript (otherTags x)) (r .script)) in
@@ -213,7 +214,7 @@ module _ (x : List ℕ) (a : Accepted x) where
   -- the language
   begin-core : Core (firstTag x) (otherTags x) → (s : Start) → s ≡ startOf (firstTag x) → Begins x c (coreOf (firstTag x ∷ otherTags x)) s
   unfolding startOf
-  begin-core (a-language f o) s e =
+  begin-core (of-language f o) s e =
       let l : c .language ≡ length (firstTag x) = cut-is ∙ cut-language (firstTag x) (otherTags x) f in
       let q : s ≡ Language = e ∙ rw (f, startOf) in
       rw (core-language (firstTag x) (otherTags x) f) (record {
@@ -223,10 +224,10 @@ module _ (x : List ℕ) (a : Accepted x) where
         script = λ z. not-script (sym q ∙ z);
         root = λ z. not-root (sym q ∙ z);
       })
-  begin-core (the-root f g o) s e =
+  begin-core (of-root f g o) s e =
       let q : s ≡ Root = e ∙ rw (f, g, startOf) in
       rw (core-root (firstTag x) (otherTags x) f g) (record { language = λ z. not-root (sym z ∙ q); fits = λ z. not-root (sym z ∙ q); small = λ z. not-root (sym z ∙ q); script = λ _. refl; root = λ _. refl })
-  begin-core (a-script f g k r) s e =
+  begin-core (of-script f g r) s e =
       let q : s ≡ Script = e ∙ rw (f, g, startOf) in
       rw (core-script (firstTag x) (otherTags x) f g) (record { language = λ z. not-script (sym z ∙ q); fits = λ z. not-script (sym z ∙ q); small = λ z. not-script (sym z ∙ q); script = λ _. refl; root = λ _. refl })
 

@@ -1,6 +1,6 @@
 -- The printed identifier is its language and its sections; what parts the sections of an input. Assumes nothing.
 use mathlib.Core.Path.{_≡_, refl, sym, ap, ap₂, _∙_}
-use mathlib.Core.Bool.{Bool, true, false}
+use mathlib.Core.Bool.{Bool, false}
 use mathlib.Core.List.{List, [], _∷_, _++_, append-nil, append-assoc}
 use Prim.Native.Nat.{ℕ}
 use native.Mathlib.Omega.{arith}
@@ -9,10 +9,10 @@ use borrow.Author.Tests.{lt-leb}
 use Rattle.standard.specs.Tag.{Tag}
 use Rattle.standard.specs.Grammar.{oneSize, sizeOf, isSingleton, Groups, withTag, grouped, flat, arrange}
 use Rattle.standard.specs.Identifier.{Identifier}
-use Rattle.standard.specs.Reading.{optional, rest, tags, joined, print, upTo, from}
+use Rattle.standard.specs.Reading.{optional, rest, tags, joined, print}
 use Rattle.subtag.specs.Subtags.{PlainTag}
 use Rattle.arranging.specs.Section.{tagsOf, led, Plain, isHead, arrangedTags}
-use Rattle.arranging.proofs.Pending.{led-append, grouped-all}
+use Rattle.arranging.proofs.Pending.{led-append}
 
 pub joined-led : (t : Tag) (ts : List Tag) → joined (t ∷ ts) ≡ t ++ led ts
 unfolding joined led
@@ -50,14 +50,3 @@ grouped-singleton (t ∷ ts) h = ap₂ (λ (b : Bool) (g : Groups). withTag b t 
 pub arranged : (s : List ℕ) → Plain (tagsOf s) → arrangedTags s ≡ flat (arrange ((grouped isSingleton (tagsOf s)) .groups))
 unfolding arrangedTags
 arranged s h = ap (λ (g : Groups). flat (arrange (g .groups))) (sym (grouped-singleton (tagsOf s) h))
-
--- up to the first of a kind, and from it on
-pub up-to : (p : Tag → Bool) (ts : List Tag) → (upTo p ts ≡ (grouped p ts) .before) × (from p ts ≡ flat ((grouped p ts) .groups))
-unfolding upTo from grouped withTag flat
-up-to p [] = (refl, refl)
-up-to p (t ∷ ts) = go (p t) refl (up-to p ts)
-  where
-    go : (b : Bool) → p t ≡ b → (upTo p ts ≡ (grouped p ts) .before) × (from p ts ≡ flat ((grouped p ts) .groups))
-        → (upTo p (t ∷ ts) ≡ (withTag b t (grouped p ts)) .before) × (from p (t ∷ ts) ≡ flat ((withTag b t (grouped p ts)) .groups))
-    go true e i = (rw (e, upTo), rw (e, from) (ap (_∷_ t) (grouped-all p ts)))
-    go false e i = (rw (e, upTo) (ap (_∷_ t) (i .0)), rw (e, from) (i .1))

@@ -16,6 +16,7 @@ use Rattle.standard.specs.Reading.{noBytes, tooLong, unclean, badTag, wrongSize
 use Rattle.standard.proofs.Bytes.{bool-cases}
 use Rattle.standard.proofs.Tags.{All}
 use Rattle.standard.proofs.Faults.{none-badTag}
+use Rattle.standard.proofs.Arranged.{firstOf-none}
 use Rattle.subtag.specs.Subtags.{PlainTag}
 use Rattle.subtag.proofs.Keys.{split-words}
 use Rattle.subtag.proofs.Walk.{split-next, split-end, le-or-lt}
@@ -28,7 +29,6 @@ use Rattle.subtag.proofs.Raised.{raised-nil}
 use Rattle.reader.specs.Words.{laterWord, LaterFits}
 use Rattle.reader.proofs.Bodies.{body, heads}
 use Rattle.reader.proofs.Walked.{grouped-flat}
-use Rattle.reader.proofs.Parting.{first-none}
 use Rattle.reader.proofs.Stages.{Others, Region, after-language, after-script, after-root, region-left}
 use Rattle.reader.proofs.Stepping.{Fine}
 use Rattle.reader.proofs.Outcomes.{fine}
@@ -75,12 +75,12 @@ pub record Accepted (x : List ℕ) : Type 0 where
 pub accepted : (x : List ℕ) → faultOf x ≡ none → Accepted x
 unfolding faultOf grammarFault body
 accepted x e =
-    let f₁ = first-none (noBytes x) _ e in
-    let f₂ = first-none (tooLong x) _ (f₁ .1) in
-    let f₃ = first-none (unclean 0 x) _ (f₂ .1) in
-    let f₄ = first-none (badTag 4 wrongSize 0 (split x)) _ (f₃ .1) in
-    let f₅ = first-none _ _ (f₄ .1) in
-    let f₆ = first-none _ _ (f₅ .1) in
+    let f₁ = firstOf-none (noBytes x) _ e in
+    let f₂ = firstOf-none (tooLong x) _ (f₁ .1) in
+    let f₃ = firstOf-none (unclean 0 x) _ (f₂ .1) in
+    let f₄ = firstOf-none (badTag 4 wrongSize 0 (split x)) _ (f₃ .1) in
+    let f₅ = firstOf-none _ _ (f₄ .1) in
+    let f₆ = firstOf-none _ _ (f₅ .1) in
     record { fine-tags = fine (split x) (split-words x 0 (f₃ .0)) (none-badTag 4 wrongSize 0 (split x) (f₄ .0)); a-language = f₅ .0; core = f₆ .0 }
 
 -- a language, or root and nothing else, or a script
@@ -89,7 +89,7 @@ pub data Core (first : Tag) (others : List Tag) : Type 0 where
   of-root : isLanguage first ≡ false → same first root ≡ true → others ≡ [] → Core first others
   of-script : isLanguage first ≡ false → same first root ≡ false → Region others → Core first others
 
-core-of : (t : Tag) (ts : List Tag) → partFault start 0 (t ∷ ts) ≡ none → Core t ts
+pub core-of : (t : Tag) (ts : List Tag) → partFault start 0 (t ∷ ts) ≡ none → Core t ts
 unfolding partFault start
 core-of t ts e =
     bool-cases (isLanguage t) (λ f. of-language f (after-language [] _ ts (rw (f, start, partFault) at e)))
@@ -107,13 +107,13 @@ unfolding upTo from
 upTo-from p [] = refl
 upTo-from p (t ∷ ts) = bool-cases (p t) (λ e. rw (e, upTo, from)) (λ e. rw (e, upTo, from) (ap (_∷_ t) (upTo-from p ts)))
 
-all-tags : (ts : List Tag) → ts ≡ body ts ++ (flat (heads ts) ++ from isX ts)
+pub all-tags : (ts : List Tag) → ts ≡ body ts ++ (flat (heads ts) ++ from isX ts)
 unfolding body heads
 all-tags ts =
     sym (upTo-from isX ts) ∙ ap (λ (a : List Tag). a ++ from isX ts) (sym (grouped-flat isSingleton (upTo isX ts)))
     ∙ append-assoc (body ts) (flat (heads ts)) (from isX ts)
 
-has-first : (b : List Tag) → noLanguage b ≡ none → b ≡ label b ∷ afterFirst b
+pub has-first : (b : List Tag) → noLanguage b ≡ none → b ≡ label b ∷ afterFirst b
 unfolding noLanguage label afterFirst
 has-first [] e = absurd (Option·some-ne-none _ e)
 has-first (t ∷ b) e = refl
@@ -139,7 +139,7 @@ later-is x u (b ∷ bs) v from to a e f g =
     let i : label (split (drop (from + 1) x)) ≡ b ∷ bs = ap (λ (n : ℕ). label (split (drop n x))) (sym f) ∙ p .is in
     record { fits = record { fits = λ h. let k = p .fits in omega arith; short = λ h. rw i (p .short) }; word = λ n. rw (lt-ltb from to (omega arith), laterWord) (ap (raised n) i); short = p .short }
 
-others-of : (t : Tag) (ts : List Tag) → Core t ts → Others ts
+pub others-of : (t : Tag) (ts : List Tag) → Core t ts → Others ts
 unfolding find only optional
 others-of t ts (of-language f o) = o
 others-of t ts (of-root f g o) = rw o

@@ -10,10 +10,11 @@ use Rattle.standard.specs.Tag.{Tag, same, label}
 use Rattle.standard.specs.Grammar.{Kind, aScript, aRegion, aVariant, aNone, sizeOf, kind, kindOf, variantKind, isVariant, isLanguage, isSingleton, isTwo, isFieldKey, uTag, tTag, grouped, flat, only}
 use Rattle.standard.specs.Identifier.{part, parts}
 use Rattle.standard.specs.Reading as reading
-use Rattle.standard.specs.Reading.{Fault, fault, firstOf, accept, wrongKeyword, isX, upTo, from, root, ofKind, find, afterFirst, identifierOf, grammarFault}
+use Rattle.standard.specs.Reading.{Fault, fault, accept, wrongKeyword, isX, upTo, from, root, ofKind, find, afterFirst, identifierOf, grammarFault}
 use Rattle.standard.specs.Report.{privateCount}
 use Rattle.standard.proofs.Bytes.{clash, bool-cases}
 use Rattle.standard.proofs.Shapes.{known}
+use Rattle.standard.proofs.Arranged.{firstOf-none}
 use Rattle.reader.specs.declared.Parts.{Parts}
 use Rattle.reader.specs.declared.steps.Stage.{Stage}
 use Rattle.reader.specs.declared.steps.Stage.the-variants.{Language, Script, Region, Variant, Root}
@@ -30,15 +31,10 @@ record Passed (st : State) (singles listed : List Tag) (back at : ℕ) (t : Tag)
   here : verdictFault (verdictOf (nextState st t)) singles listed back at t ≡ none
   on : walkFault (nextState st t) (singlesAfter (verdictOf (nextState st t)) t singles) (listedAfter (verdictOf (nextState st t)) t listed) at (at + suc (length t)) ts ≡ none
 
-pub first-none : (a b : Option Fault) → firstOf a b ≡ none → (a ≡ none) × (b ≡ none)
-unfolding firstOf
-first-none none b e = (refl, e)
-first-none (some f) b e = absurd (Option·some-ne-none f e)
-
 passed : (st : State) (singles listed : List Tag) (back at : ℕ) (t : Tag) (ts : List Tag) → walkFault st singles listed back at (t ∷ ts) ≡ none → Passed st singles listed back at t ts
 unfolding stepped
 passed st singles listed back at t ts e =
-    let h = first-none (verdictFault (verdictOf (nextState st t)) singles listed back at t) _ (sym (step st singles listed back at t ts (nextState st t) refl) ∙ e) in
+    let h = firstOf-none (verdictFault (verdictOf (nextState st t)) singles listed back at t) _ (sym (step st singles listed back at t ts (nextState st t) refl) ∙ e) in
     record { here = h .0; on = h .1 }
 
 -- What a language part adds: the lengths of script, region and variants with their separators, and the count.

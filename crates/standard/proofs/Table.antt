@@ -153,7 +153,7 @@ unfolding firstTable
 firstTable-none none b e = (refl, e)
 firstTable-none (some f) b e = absurd (Option·some-ne-none f e)
 
-inTable-none : (n : ℕ) (o : Option Fault) → inTable true n o ≡ none → o ≡ none
+pub inTable-none : (n : ℕ) (o : Option Fault) → inTable true n o ≡ none → o ≡ none
 unfolding inTable
 inTable-none n none e = refl
 inTable-none n (some f) e = absurd (Option·some-ne-none _ e)
