@@ -1,8 +1,7 @@
 -- The rows of `inspect`: asked, number, place, language, script, region, variants, extensions, parted by tabs, with `-`
 -- where there is none. Assumes nothing.
 use mathlib.Core.List.{List, [], _∷_, _++_}
-use mathlib.Core.Path.{_≡_}
-use Prim.Native.Nat.{ℕ, _+_, _≤_, _<_}
+use Prim.Native.Nat.{ℕ}
 use Rattle.standard.specs.Tag.{Tag}
 use Rattle.standard.specs.Report.{Report, report}
 use Rattle.fields.specs.Fields.{decimal, field, askedOf}
@@ -32,10 +31,3 @@ reportText r x = field (askedOf (r .number) x) 9 ++ fieldsText r
 
 unfoldable pub rowOf : Bytes → Bytes
 rowOf x = reportText (report x) x
-
--- the lesser of a number and 8
-pub record AtMost8 (n r : ℕ) : Type 0 where
-  pub few : r ≤ 8
-  pub less : r ≤ n
-  pub all : n < 8 → r ≡ n
-  pub full : 8 ≤ n → r ≡ 8

@@ -7,17 +7,18 @@ use reader::report::Report;
 use reader::report::Word;
 use table::end_of;
 ghost use mathlib.Core.Path.{_≡_};
-ghost use Prim.Native.Nat.{_+_, _≤_, _<_};
+ghost use Prim.Native.Nat.{_+_, _≤_};
 ghost use lib.ListN.{length};
 ghost use lib.Seq.{sets};
-ghost use Rattle.reader.specs.Words.{wordIs, reportIs};
+ghost use Rattle.reader.specs.Words.{wordIs, reportIs, Within};
 ghost use Rattle.fields.specs.Fields.{field};
 ghost use Rattle.lines.specs.Pieces.{pieceText, pieceUsed};
-ghost use Rattle.inspection.specs.Rows.{dashed, AtMost8, whereText, threeText, countsText, fieldsText, rowOf};
+ghost use Rattle.inspection.specs.Rows.{dashed, whereText, threeText, countsText, fieldsText, rowOf};
 
 // `-` for an absent subtag.
 fn dashed_word(w: Word) -> Word
-    ensures { λ r. ⌜ wordIs r ≡ dashed (wordIs w) ⌝ }
+    requires { ⌜ w .len ≤ 8 ⌝ }
+    ensures { λ r. ⌜ (wordIs r ≡ dashed (wordIs w)) × (r .len ≤ 8) ⌝ }
 {
     if w.len == 0 {
         return Word {
@@ -28,27 +29,18 @@ fn dashed_word(w: Word) -> Word
     w
 }
 
-fn at_most_8(n: usize) -> usize
-    ensures { λ r. ⌜ AtMost8 n r ⌝ }
-{
-    if n < 8 {
-        return n;
-    }
-    8
-}
-
 // Writes a word and the mark that ends it at the place at, and gives the next place.
 fn put_word(w: Word, mark: u8, out: &mut [u8], at: usize) -> usize
-    requires { ⌜ at + 9 ≤ length (now out) ⌝ }
+    requires { ⌜ (w .len ≤ 8) × (at + 9 ≤ length (now out)) ⌝ }
     ensures { λ r. ⌜ (r ≡ at + length (field (wordIs w) mark)) × (now (out .exit) ≡ sets (now (out .entry)) at (field (wordIs w) mark)) × (r ≤ at + 9) ⌝ }
 {
-    let n = at_most_8(w.len);
+    let n = w.len;
     let bytes = w.bytes;
     put(&bytes[..n], mark, out, at)
 }
 
 fn put_subtag(w: Word, mark: u8, out: &mut [u8], at: usize) -> usize
-    requires { ⌜ at + 9 ≤ length (now out) ⌝ }
+    requires { ⌜ (w .len ≤ 8) × (at + 9 ≤ length (now out)) ⌝ }
     ensures { λ r. ⌜ (r ≡ at + length (field (dashed (wordIs w)) mark)) × (now (out .exit) ≡ sets (now (out .entry)) at (field (dashed (wordIs w)) mark)) × (r ≤ at + 9) ⌝ }
 {
     put_word(dashed_word(w), mark, out, at)
@@ -63,7 +55,7 @@ fn put_where(number: u8, place: usize, out: &mut [u8], at: usize) -> usize
 }
 
 fn put_three(language: Word, script: Word, region: Word, out: &mut [u8], at: usize) -> usize
-    requires { ⌜ at + 27 ≤ length (now out) ⌝ }
+    requires { ⌜ (language .len ≤ 8) × (script .len ≤ 8) × (region .len ≤ 8) × (at + 27 ≤ length (now out)) ⌝ }
     ensures { λ r. ⌜ (r ≡ at + length (threeText (wordIs language) (wordIs script) (wordIs region))) × (now (out .exit) ≡ sets (now (out .entry)) at (threeText (wordIs language) (wordIs script) (wordIs region))) × (r ≤ at + 27) ⌝ }
 {
     let p = put_subtag(language, 9, out, at);
@@ -81,7 +73,7 @@ fn put_counts(variants: usize, extensions: usize, out: &mut [u8], at: usize) -> 
 
 // All fields of a report.
 fn put_report(r: Report, out: &mut [u8], at: usize) -> usize
-    requires { ⌜ at + 111 ≤ length (now out) ⌝ }
+    requires { ⌜ Within r × (at + 111 ≤ length (now out)) ⌝ }
     ensures { λ n. ⌜ (n ≡ at + length (fieldsText (reportIs r))) × (now (out .exit) ≡ sets (now (out .entry)) at (fieldsText (reportIs r))) × (n ≤ at + 111) ⌝ }
 {
     let language = r.language;

@@ -13,7 +13,7 @@ same-length : tie.Need-same-length
 same-length c = search needs
 
 returns : tie.Need-returns
-returns c = rw (← (c .before .before .before .before .dashed-word .ensures)) (c .before .before .put-word .ensures)
+returns c = rw (← (c .before .before .before .before .dashed-word .ensures .0)) (c .before .before .put-word .ensures)
 
 pub put-subtag-spec : {M : Type 1} → statement M
 put-subtag-spec = tie.close (tie.spec dashed-word-requires put-word-requires same-length returns)
