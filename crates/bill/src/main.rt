@@ -41,20 +41,6 @@ fn take_input(
     input::end(i, aliases, likely, piece, keys, counts)
 }
 
-// Room for a block of input. The larger it is, the less the test of the tables costs a line.
-fn block_buffer() -> [u8; 262144]
-    ensures { λ r. ⌜ 262144 ≡ length r ⌝ }
-{
-    [0; 262144]
-}
-
-// Room for a block behind an unfinished line.
-fn piece_buffer() -> [u8; 262404]
-    ensures { λ r. ⌜ length r ≡ 262404 ⌝ }
-{
-    [0; 262404]
-}
-
 // The arrays of a bill.
 fn key_room() -> [u8; 16384]
     ensures { λ r. ⌜ length r ≡ 16384 ⌝ }
@@ -73,7 +59,7 @@ fn make_text(aliases: &[u8], likely: &[u8], block: &mut [u8]) -> usize
     requires { ⌜ 65536 ≤ length (now block) ⌝ }
     ensures { λ r. ⌜ (r ≤ length (now (block .exit))) × ((x : Bytes) × (take r (now (block .exit)) ≡ monthText (now (aliases .entry)) (now (likely .entry)) (lines x))) ⌝ }
 {
-    let mut piece = piece_buffer();
+    let mut piece = opener::input::piece_buffer();
     let mut keys = key_room();
     let mut counts = count_room();
     let c = take_input(aliases, likely, block, &mut piece, &mut keys, &mut counts);
@@ -81,7 +67,7 @@ fn make_text(aliases: &[u8], likely: &[u8], block: &mut [u8]) -> usize
 }
 
 fn run(aliases: &[u8], likely: &[u8]) {
-    let mut block = block_buffer();
+    let mut block = opener::input::block_buffer();
     let len = make_text(aliases, likely, &mut block);
     io::write_all(STDOUT_FILENO, &block[..len]);
 }

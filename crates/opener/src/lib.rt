@@ -1,4 +1,6 @@
 // Tables opened by the programs, in the current folder. A file that can't be opened counts as zero bytes.
+pub mod input;
+
 use fields::Text;
 use fields::table_line;
 use libc::STDOUT_FILENO;

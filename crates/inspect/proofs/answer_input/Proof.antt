@@ -1,26 +1,27 @@
 -- `inspect::answer_input` meets its contract. Assumes nothing.
 use mathlib.Core.Path.{_≡_, sym}
-use Prim.Native.Nat.{_≤_}
+use Prim.Native.Nat.{_+_, _≤_}
 use lib.ListN.{length}
 use lib.Seq.{length-take-le}
+use Rattle.opener.specs.Handed.{Handed}
 use borrow.Author.Needs.{needs}
 use Rattle.inspect.proofs.answer_input.Statement.{statement}
 use Rattle.inspect.proofs.answer_input.Tie as tie
 
 abbrev Inv-loop : tie.InvT-loop
-Inv-loop block₀ piece₀ out₀ kept₀ turns₀ block piece out kept turns = (kept ≤ 260) × (length block ≡ 65536) × (length piece ≡ 65796) × (512 ≤ length out) × (length block₀ ≡ 65536) × (length piece₀ ≡ 65796) × (length out ≡ length out₀)
+Inv-loop block₀ piece₀ out₀ i₀ block piece out i = Handed i (length piece) × (260 + length block ≤ length piece) × (512 ≤ length out) × (length block ≡ length block₀) × (length piece ≡ length piece₀) × (length out ≡ length out₀)
 
 abbrev μ-loop : tie.MeasureT-loop
-μ-loop block₀ piece₀ out₀ kept₀ turns₀ block piece out kept turns = turns
+μ-loop block₀ piece₀ out₀ i₀ block piece out i = i .turns
+
+begin-requires : tie.Need-begin-requires Inv-loop μ-loop
+begin-requires c κs = search needs
 
 loop-holds : tie.Need-loop-holds Inv-loop μ-loop
 loop-holds c = search needs
 
-read-requires : tie.Need-read-requires Inv-loop μ-loop
-read-requires c κs = search needs
-
-count-requires : tie.Need-count-requires Inv-loop μ-loop
-count-requires c κs = search needs
+next-requires : tie.Need-next-requires Inv-loop μ-loop
+next-requires c κs = search needs
 
 slice-reshare-prefix-print-rows : tie.Need-slice-reshare-prefix-print-rows Inv-loop μ-loop
 slice-reshare-prefix-print-rows c = search needs
@@ -30,6 +31,12 @@ slice-aggregate-print-rows c = sym (length-take-le _ _ (search needs))
 
 print-rows-requires : tie.Need-print-rows-requires Inv-loop μ-loop
 print-rows-requires c κs = search needs
+
+loop-less : tie.Need-loop-less Inv-loop μ-loop
+loop-less c = search needs
+
+loop-again : tie.Need-loop-again Inv-loop μ-loop
+loop-again c = search needs
 
 same-length : tie.Need-same-length Inv-loop μ-loop
 same-length c = search needs
@@ -43,75 +50,21 @@ same-length-3 c = search needs
 returns : tie.Need-returns Inv-loop μ-loop
 returns c = search needs
 
-slice-reshare-prefix-take-in : tie.Need-slice-reshare-prefix-take-in Inv-loop μ-loop
-slice-reshare-prefix-take-in c = search needs
-
-slice-aggregate-take-in : tie.Need-slice-aggregate-take-in Inv-loop μ-loop
-slice-aggregate-take-in c = sym (length-take-le _ _ (search needs))
-
-take-in-requires : tie.Need-take-in-requires Inv-loop μ-loop
-take-in-requires c κs = search needs
-
-slice-reshare-prefix-print-rows-2 : tie.Need-slice-reshare-prefix-print-rows-2 Inv-loop μ-loop
-slice-reshare-prefix-print-rows-2 c = search needs
-
-slice-aggregate-print-rows-2 : tie.Need-slice-aggregate-print-rows-2 Inv-loop μ-loop
-slice-aggregate-print-rows-2 c = sym (length-take-le _ _ (search needs))
-
-print-rows-requires-2 : tie.Need-print-rows-requires-2 Inv-loop μ-loop
-print-rows-requires-2 c κs = search needs
-
-keep-rest-requires : tie.Need-keep-rest-requires Inv-loop μ-loop
-keep-rest-requires c κs = search needs
-
-sub-turns : tie.Need-sub-turns Inv-loop μ-loop
-sub-turns c = search needs
-
-loop-less : tie.Need-loop-less Inv-loop μ-loop
-loop-less c = search needs
-
-loop-again : tie.Need-loop-again Inv-loop μ-loop
-loop-again c = search needs
-
-same-length-4 : tie.Need-same-length-4 Inv-loop μ-loop
-same-length-4 c = search needs
-
-same-length-5 : tie.Need-same-length-5 Inv-loop μ-loop
-same-length-5 c = search needs
-
-same-length-6 : tie.Need-same-length-6 Inv-loop μ-loop
-same-length-6 c = search needs
-
-returns-2 : tie.Need-returns-2 Inv-loop μ-loop
-returns-2 c = search needs
-
 pub answer-input-spec : {M : Type 1} → statement M
 answer-input-spec =
     tie.close
     (tie.spec
     Inv-loop
     μ-loop
+    begin-requires
     loop-holds
-    read-requires
-    count-requires
+    next-requires
     slice-reshare-prefix-print-rows
     slice-aggregate-print-rows
     print-rows-requires
+    loop-less
+    loop-again
     same-length
     same-length-2
     same-length-3
-    returns
-    slice-reshare-prefix-take-in
-    slice-aggregate-take-in
-    take-in-requires
-    slice-reshare-prefix-print-rows-2
-    slice-aggregate-print-rows-2
-    print-rows-requires-2
-    keep-rest-requires
-    sub-turns
-    loop-less
-    loop-again
-    same-length-4
-    same-length-5
-    same-length-6
-    returns-2)
+    returns)
