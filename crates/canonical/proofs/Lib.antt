@@ -15,3 +15,4 @@ pub mod Formed
 pub mod Outcomes
 pub mod Canonicalised
 pub mod Delivers
+pub mod Wholes

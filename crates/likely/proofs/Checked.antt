@@ -1,17 +1,16 @@
 -- From the tables' check to the whole operation. Assumes nothing.
-use mathlib.Core.Path.{_≡_, refl, sym, ap, _∙_}
+use mathlib.Core.Path.{_≡_, refl, ap, _∙_}
 use mathlib.Core.Bool.{Bool, true, false}
 use mathlib.Core.List.{[]}
 use mathlib.Core.Option.{Option, none}
-use Rattle.standard.specs.Delivery.{Bytes, Made as Making, given}
+use Rattle.standard.specs.Delivery.{Bytes, given}
 use Rattle.standard.specs.Table.{TableFault, tablesOf, check}
 use Rattle.standard.specs.Make.{make, afterCheck, maximiseMade, minimiseMade}
-use Rattle.standard.proofs.Table.{check-less}
-use Rattle.standard.proofs.Whole.{aliases-only, narrow-likely}
+use Rattle.standard.proofs.Whole.{narrow-likely}
 use Rattle.verdict.proofs.Ordered.{check-sorted}
 use Rattle.canonical.specs.Answer.{answerOf, refusedAnswer}
 use Rattle.canonical.specs.declared.delivery.Answer.{Answer}
-use Rattle.canonical.proofs.Delivers.{tested}
+use Rattle.canonical.proofs.Wholes.{tested-among, passed-stands}
 use Rattle.likely.specs.declared.forms.Outcome.{Outcome}
 use Rattle.likely.specs.declared.forms.Outcome.the-variants.{Done, NoRow, Long, Short}
 use Rattle.likely.specs.declared.tested.Answered.{Answered}
@@ -37,10 +36,9 @@ answer-given (Made o) out = outcome-given o out
 -- tables that pass are as the inner operation asks
 pub tested-both : (A L : Bytes) → check true false A L [] ≡ none → TestedBoth A L
 tested-both A L e =
-    let w = narrow-likely A L ∙ e in
     record {
       passes = e;
-      aliases = tested A (aliases-only A L [] ∙ check-less false false A L [] w);
+      aliases = tested-among A L [] (narrow-likely A L ∙ e);
       likely = check-sorted true false A L [] e .likely refl;
     }
 
@@ -60,5 +58,6 @@ whole-minimised A L x = refl
 -- what was made over tables that pass is the whole answer
 pub whole-answer : (b : Bool) (A L x : Bytes) (a : Answered) (r : Answer) (out out′ : Bytes) → check true false A L [] ≡ none → r ≡ answerBy a
     → givenAnswered a out′ ≡ given (make (tablesOf A L []) (operationOf b) x) out → answerOf r out′ ≡ given (wholeMade b A L x) out
+unfolding wholeMade
 whole-answer b A L x a r out out′ e f g =
-    ap (λ (q : Answer). answerOf q out′) f ∙ (answer-given a out′ ∙ (g ∙ ap (λ (m : Making). given m out) (sym (whole-good b A L x e))))
+    passed-stands (check true false A L []) (make (tablesOf A L []) (operationOf b) x) out out′ r (answerBy a) e f (answer-given a out′ ∙ g)

@@ -1,22 +1,22 @@
 -- From the tables' check to the whole chain. Assumes nothing.
-use mathlib.Core.Path.{_≡_, refl, ap, _∙_, sym}
+use mathlib.Core.Path.{_≡_, refl, _∙_}
 use mathlib.Core.Bool.{Bool, true, false}
 use mathlib.Core.List.{[]}
-use mathlib.Core.Option.{Option, none, Option·some-ne-none}
+use mathlib.Core.Option.{none, Option·some-ne-none}
 use Prim.Native.Nat.{ℕ, _≤_}
 use lib.Dec.{leb, leb→le}
 use lib.ListN.{length}
-use Rattle.standard.specs.Delivery.{Bytes, Made, given}
+use Rattle.standard.specs.Delivery.{Bytes, given}
 use Rattle.standard.specs.Reading.{fault, read}
-use Rattle.standard.specs.Table.{TableFault, tooBig, inTable, tablesOf, check}
-use Rattle.standard.specs.Make.{chainFrom, afterCheck, listMade}
+use Rattle.standard.specs.Table.{tooBig, inTable, tablesOf, check}
+use Rattle.standard.specs.Make.{chainFrom, listMade}
 use Rattle.standard.proofs.Bytes.{true→T}
-use Rattle.standard.proofs.Table.{firstTable-none, check-less}
-use Rattle.standard.proofs.Whole.{aliases-only, narrow-parents}
+use Rattle.standard.proofs.Table.{firstTable-none}
+use Rattle.standard.proofs.Whole.{narrow-parents}
 use Rattle.verdict.proofs.Ordered.{check-sorted}
 use Rattle.canonical.specs.Answer.{answerOf, refusedAnswer}
 use Rattle.canonical.specs.declared.delivery.Answer.{Answer}
-use Rattle.canonical.proofs.Delivers.{tested}
+use Rattle.canonical.proofs.Wholes.{tested-among, passed-stands}
 use Rattle.canonical.proofs.Canonicalised.{refused-answer}
 use Rattle.parents.specs.declared.lines.Listed.{Listed}
 use Rattle.parents.specs.declared.tested.Answered.{Answered}
@@ -61,21 +61,16 @@ parents-small A P e = not-big 3 P (firstTable-none _ _ (firstTable-none _ _ (fir
 -- tables that pass are as the inner operation asks
 pub tested-chain : (A P : Bytes) → check false true A [] P ≡ none → TestedChain A P
 tested-chain A P e =
-    let w = narrow-parents A P ∙ e in
     record {
       passes = e;
-      aliases = tested A (aliases-only A [] P ∙ check-less false false A [] P w);
+      aliases = tested-among A [] P (narrow-parents A P ∙ e);
       parents = check-sorted false true A [] P e .parents refl;
       small = parents-small A P e;
     }
 
--- nothing is refused for tables that pass
-pub list-good : (A P x : Bytes) → check false true A [] P ≡ none → listMade A P x ≡ chainFrom (tablesOf A [] P) (read x)
-unfolding listMade afterCheck
-list-good A P x e = ap (λ (o : Option TableFault). afterCheck o (chainFrom (tablesOf A [] P) (read x))) e
-
 -- what was listed over tables that pass is the whole answer
 pub whole-answer : (A P x : Bytes) (a : Answered) (r : Answer) (out out′ : Bytes) → check false true A [] P ≡ none → r ≡ answerBy a
     → givenAnswered a out′ ≡ given (chainFrom (tablesOf A [] P) (read x)) out → answerOf r out′ ≡ given (listMade A P x) out
+unfolding listMade
 whole-answer A P x a r out out′ e f g =
-    ap (λ (q : Answer). answerOf q out′) f ∙ (answer-given a out′ ∙ (g ∙ ap (λ (m : Made). given m out) (sym (list-good A P x e))))
+    passed-stands (check false true A [] P) (chainFrom (tablesOf A [] P) (read x)) out out′ r (answerBy a) e f (answer-given a out′ ∙ g)
