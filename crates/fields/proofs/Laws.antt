@@ -1,15 +1,17 @@
 -- Laws of fields. Assumes nothing.
-use mathlib.Core.Path.{_≡_, refl, sym, ap, ap₂, _∙_}
+use mathlib.Core.Path.{_≡_, refl, sym, _∙_}
 use mathlib.Core.Bool.{Bool, true, false, cond, _||_}
 use mathlib.Core.List.{List, [], _∷_, _++_}
+use mathlib.Core.Logic.{⊎-elim}
 use Prim.Native.Nat.{ℕ, zero, suc, _+_, _-_, _/_, _%_, _≤_, _<_}
 use native.Mathlib.Omega.{arith}
 use native.Mathlib.Numerals.{add-one}
 use lib.Dec.{eqb}
-use lib.ListN.{length, getD, take, drop, set, length-append, length-drop, length-set}
-use lib.Seq.{sets, take-all, length-take-le, take-suc, drop-cons, drop-set-lt, getD-set-same}
+use lib.ListN.{length, take, drop, set, length-append, length-drop, length-set}
+use lib.Seq.{sets, take-all, drop-cons, drop-set-lt, getD-set-same}
 use borrow.Author.Tests.{eq-eqb, ne-eqb}
-use Rattle.subtag.proofs.Stores.{sets-append, wrote-two, written}
+use Rattle.subtag.proofs.Stores.{wrote-two, written}
+use Rattle.subtag.proofs.Walk.{le-or-lt}
 use Rattle.fields.specs.Fields.{Bytes, digitsOnto, decimal, field, askedOf, tableText}
 
 -- A number that is being written: the digits from `start` on, and what is left of it.
@@ -82,20 +84,11 @@ pub digit-put : (out : Bytes) (at n mark d : ℕ) → n < 10 → d ≡ 48 + n
     → (at + 2 ≡ at + length (field (decimal n) mark)) × (set (set out at d) (at + 1) mark ≡ sets out at (field (decimal n) mark)) × (at + 2 ≤ at + 2)
 digit-put out at n mark d h e = rw (digit-field n mark h, e, add-one) (refl, refl, omega arith)
 
--- one byte more
-pub stored : (l o : List ℕ) (at : ℕ) (x : List ℕ) (i : ℕ) → o ≡ sets l at (take i x) → i < length x → set o (at + i) (getD x i 0) ≡ sets l at (take (i + 1) x)
-stored l o at x i e h =
-    let n = length-take-le i x (omega arith) in
-    ap (λ (q : List ℕ). set q (at + i) (getD x i 0)) e
-    ∙ sym (rw (add-one, take-suc x i 0 h) (sets-append l at (take i x) (getD x i 0 ∷ []) ∙ ap (λ (k : ℕ). set (sets l at (take i x)) (at + k) (getD x i 0)) n))
-
-pub ended : (l o : List ℕ) (at : ℕ) (x : List ℕ) (i mark : ℕ) → o ≡ sets l at (take i x) → length x ≤ i → i ≤ length x
-    → (at + i + 1 ≡ at + length (field x mark)) × (set o (at + i) mark ≡ sets l at (field x mark))
+-- the mark behind what was written
+pub ended : (o o₁ : List ℕ) (at end : ℕ) (x : List ℕ) (mark : ℕ) → end ≡ at + length x → o₁ ≡ sets o at x
+    → (end + 1 ≡ at + length (field x mark)) × (set o₁ end mark ≡ sets o at (field x mark))
 unfolding field
-ended l o at x i mark e h k =
-    let n : i ≡ length x = omega arith in
-    let a = length-append x (mark ∷ []) in
-    (omega arith, ap₂ (λ (q : List ℕ) (j : ℕ). set q (at + j) mark) (e ∙ ap (sets l at) (take-all i x h)) n ∙ sym (sets-append l at x (mark ∷ [])))
+ended o o₁ at end x mark e f = wrote-two o o₁ (set o₁ end mark) at end (end + 1) x (mark ∷ []) (x ++ (mark ∷ [])) refl e f refl refl
 
 -- what was asked
 module _ (n : ℕ) (x : List ℕ) where
@@ -111,13 +104,17 @@ module _ (n : ℕ) (x : List ℕ) where
   unfolding askedOf
   asked-line f g = rw (ne-eqb n 2 f, ne-eqb n 3 g)
 
-pub asked-short : (n : ℕ) (x : List ℕ) → length x ≤ 255 → length (askedOf n x) ≤ 255
+asked-short : (n : ℕ) (x : List ℕ) → length x ≤ 255 → length (askedOf n x) ≤ 255
 unfolding askedOf
 asked-short n x h = go (eqb n 2 || eqb n 3)
   where
     go : (b : Bool) → length (cond b (45 ∷ []) x) ≤ 255
     go true = omega arith
     go false = h
+
+-- at most 255 bytes are printed, where longer lines are refused with 2
+pub asked-fits : (n : ℕ) (x : List ℕ) → (255 < length x → n ≡ 2) → length (askedOf n x) ≤ 255
+asked-fits n x two = ⊎-elim (asked-short n x) (λ h. rw (asked-two n x (two h)) (omega arith)) (le-or-lt (length x) 255)
 
 pub field-length : (x : List ℕ) (mark : ℕ) → length (field x mark) ≡ length x + 1
 unfolding field

@@ -48,13 +48,9 @@ pub fn put(src: &[u8], mark: u8, out: &mut [u8], at: usize) -> usize
     requires { ⌜ at + length (now src) + 1 ≤ length (now out) ⌝ }
     ensures { λ r. ⌜ (r ≡ at + length (field (now (src .entry)) mark)) × (now (out .exit) ≡ sets (now (out .entry)) at (field (now (src .entry)) mark)) ⌝ }
 {
-    let mut i = 0;
-    while i < src.len() {
-        out[at + i] = src[i];
-        i += 1;
-    }
-    out[at + i] = mark;
-    at + i + 1
+    let end = subtag::put(src, out, at);
+    out[end] = mark;
+    end + 1
 }
 
 // The same of the bytes of src from an index on.

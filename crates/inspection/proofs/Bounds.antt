@@ -1,34 +1,28 @@
 -- What is printed as asked has at most 255 bytes, and so a row has room; of a line only the first 260 bytes matter.
 -- Assumes nothing.
-use mathlib.Core.Path.{_≡_, refl, sym, ap, _∙_}
+use mathlib.Core.Path.{_≡_, refl, sym, ap}
 use mathlib.Core.List.{List, [], _++_}
-use mathlib.Core.Logic.{⊎-elim}
 use Prim.Native.Nat.{ℕ, _+_, _≤_, _<_}
 use native.Mathlib.Omega.{arith}
 use lib.ListN.{length, take}
-use lib.Seq.{take-all, length-take-le}
 use Rattle.standard.specs.Reading.{bad}
 use Rattle.standard.specs.Report.{Report, reportOf, report}
-use Rattle.subtag.proofs.Walk.{le-or-lt}
 use Rattle.reader.specs.Words.{reportIs, refusedReport}
 use Rattle.reader.proofs.Outcomes.{outcome-long}
 use Rattle.reader.proofs.Reports.{report-bad}
 use Rattle.table.specs.Lines.{lines}
 use Rattle.lines.specs.Squeeze.{handed, allLines, together}
 use Rattle.lines.specs.Pieces.{rowsText}
-use Rattle.lines.proofs.Pieces.{rows-handed}
+use Rattle.lines.proofs.Pieces.{first-enough, rows-handed}
 use Rattle.fields.specs.Fields.{field, askedOf}
 use Rattle.inspection.specs.Rows.{fieldsText, reportText, rowOf}
-use Rattle.fields.proofs.Laws.{asked-two, asked-short, field-length}
+use Rattle.fields.proofs.Laws.{asked-two, asked-fits, field-length}
 use Rattle.reader.specs.declared.report.Report.{Report as Read·Report}
 
 -- what is printed as asked has at most 255 bytes
-long-asked : (x : List ℕ) → 255 < length x → length (askedOf ((report x) .number) x) ≤ 255
-unfolding refusedReport reportOf
-long-asked x h = rw (← (report-bad x 2 0 (outcome-long x h)), asked-two 2 x refl) (omega arith)
-
 asked-small : (x : List ℕ) → length (askedOf ((report x) .number) x) ≤ 255
-asked-small x = ⊎-elim (asked-short ((report x) .number) x) (long-asked x) (le-or-lt (length x) 255)
+unfolding refusedReport reportOf
+asked-small x = asked-fits ((report x) .number) x (λ h. rw (← (report-bad x 2 0 (outcome-long x h))))
 
 pub asked-length : (r : Read·Report) (x : List ℕ) → reportIs r ≡ report x → length (field (askedOf (r .number) x) 9) ≤ 256
 unfolding reportIs
@@ -45,9 +39,7 @@ unfolding rowOf reportText refusedReport reportOf
 row-long x h = rw (← (report-bad x 2 0 (outcome-long x h)), asked-two 2 x refl, asked-two 2 [] refl)
 
 pub row-first : (x : List ℕ) → rowOf (take 260 x) ≡ rowOf x
-row-first x =
-    ⊎-elim (λ h. ap rowOf (take-all 260 x h))
-    (λ h. row-long (take 260 x) (omega (arith, length-take-le 260 x (omega arith))) ∙ sym (row-long x (omega arith))) (le-or-lt (length x) 260)
+row-first x = first-enough rowOf (reportText (reportOf (bad 2 0)) []) (λ y h. row-long y (omega arith)) x
 
 -- THE PROGRAM: of blocks of input, wherever they end, the rows of the lines that the line reader hands over are the rows
 -- of the lines of the input.

@@ -7,13 +7,14 @@ use reader::report::Report;
 use reader::report::Word;
 use table::end_of;
 ghost use mathlib.Core.Path.{_≡_};
+ghost use mathlib.Core.List.{_++_};
 ghost use Prim.Native.Nat.{_+_, _≤_};
 ghost use lib.ListN.{length};
 ghost use lib.Seq.{sets};
 ghost use Rattle.reader.specs.Words.{wordIs, reportIs, Within};
-ghost use Rattle.fields.specs.Fields.{field};
+ghost use Rattle.fields.specs.Fields.{decimal, field};
 ghost use Rattle.lines.specs.Pieces.{pieceText, pieceUsed};
-ghost use Rattle.inspection.specs.Rows.{dashed, whereText, threeText, countsText, fieldsText, rowOf};
+ghost use Rattle.inspection.specs.Rows.{dashed, threeText, fieldsText, rowOf};
 
 // `-` for an absent subtag.
 fn dashed_word(w: Word) -> Word
@@ -46,12 +47,13 @@ fn put_subtag(w: Word, mark: u8, out: &mut [u8], at: usize) -> usize
     put_word(dashed_word(w), mark, out, at)
 }
 
-fn put_where(number: u8, place: usize, out: &mut [u8], at: usize) -> usize
+// Writes two numbers, the second with the given mark, at the place at, and gives the next place.
+fn put_two(first: usize, second: usize, mark: u8, out: &mut [u8], at: usize) -> usize
     requires { ⌜ at + 42 ≤ length (now out) ⌝ }
-    ensures { λ r. ⌜ (r ≡ at + length (whereText number place)) × (now (out .exit) ≡ sets (now (out .entry)) at (whereText number place)) × (r ≤ at + 42) ⌝ }
+    ensures { λ r. ⌜ (r ≡ at + length (field (decimal first) 9 ++ field (decimal second) mark)) × (now (out .exit) ≡ sets (now (out .entry)) at (field (decimal first) 9 ++ field (decimal second) mark)) × (r ≤ at + 42) ⌝ }
 {
-    let p = put_number(number as usize, 9, out, at);
-    put_number(place, 9, out, p)
+    let p = put_number(first, 9, out, at);
+    put_number(second, mark, out, p)
 }
 
 fn put_three(language: Word, script: Word, region: Word, out: &mut [u8], at: usize) -> usize
@@ -63,14 +65,6 @@ fn put_three(language: Word, script: Word, region: Word, out: &mut [u8], at: usi
     put_subtag(region, 9, out, q)
 }
 
-fn put_counts(variants: usize, extensions: usize, out: &mut [u8], at: usize) -> usize
-    requires { ⌜ at + 42 ≤ length (now out) ⌝ }
-    ensures { λ r. ⌜ (r ≡ at + length (countsText variants extensions)) × (now (out .exit) ≡ sets (now (out .entry)) at (countsText variants extensions)) × (r ≤ at + 42) ⌝ }
-{
-    let p = put_number(variants, 9, out, at);
-    put_number(extensions, 10, out, p)
-}
-
 // All fields of a report.
 fn put_report(r: Report, out: &mut [u8], at: usize) -> usize
     requires { ⌜ Within r × (at + 111 ≤ length (now out)) ⌝ }
@@ -79,9 +73,9 @@ fn put_report(r: Report, out: &mut [u8], at: usize) -> usize
     let language = r.language;
     let script = r.script;
     let region = r.region;
-    let p = put_where(r.number, r.place, out, at);
+    let p = put_two(r.number as usize, r.place, 9, out, at);
     let q = put_three(language, script, region, out, p);
-    put_counts(r.variants, r.extensions, out, q)
+    put_two(r.variants, r.extensions, 10, out, q)
 }
 
 // Writes the row of a line at the place at, and gives the next place.

@@ -1,37 +1,33 @@
 -- Laws of the rows of `keys`. Assumes nothing.
-use mathlib.Core.Path.{_≡_, refl, sym, ap, _∙_, subst}
+use mathlib.Core.Path.{_≡_, refl, sym, ap, _∙_}
 use mathlib.Core.Bool.{true, false}
 use mathlib.Core.List.{List, [], _∷_, _++_}
-use mathlib.Core.Logic.{⊎-elim}
 use mathlib.Core.Option.{Option, none, some}
 use Prim.Native.Nat.{ℕ, _+_, _-_, _≤_, _<_}
 use native.Mathlib.Omega.{arith}
 use lib.Dec.{leb}
 use lib.ListN.{length, take, drop}
-use lib.Seq.{sets, sets-eq, take-all, take-at, length-take-le}
+use lib.Seq.{sets, sets-eq, take-at}
 use borrow.Author.Tests.{eq-eqb, ne-eqb, le-leb}
-use Rattle.subtag.proofs.Walk.{le-or-lt}
 use Rattle.standard.specs.Delivery.{Bytes, Made, result, refusal, Given, given}
 use Rattle.standard.specs.Calls.{minimise}
-use Rattle.standard.specs.Reading.{good, bad, read}
 use Rattle.standard.specs.Table.{TableFault, tablesOf, check}
-use Rattle.standard.specs.Make.{make, makeOf, whole}
+use Rattle.standard.specs.Make.{make, makeOf}
 use Rattle.standard.proofs.Demand.{result-of}
-use Rattle.standard.proofs.Numbers.{Proper, whole-proper, TableWithin, check-within}
+use Rattle.standard.proofs.Numbers.{Proper, TableWithin, check-within}
 use Rattle.standard.proofs.Table.{passed, good-tables, shaped-tables}
 use Rattle.standard.proofs.Whole.{narrow-likely}
-use Rattle.reader.specs.Parts.{refused}
 use Rattle.standard.proofs.Long.{read-long, read-short}
 use Rattle.canonical.specs.Answer.{answerOf, refusedAnswer, refusedTable}
 use Rattle.likely.specs.Both.{TestedBoth, operationOf}
 use Rattle.likely.specs.Answered.{givenAnswered}
 use Rattle.likely.specs.Whole.{answerBy}
-use Rattle.likely.proofs.Checked.{answer-given, whole-good, whole-minimised}
+use Rattle.likely.proofs.Checked.{answer-given, minimised-proper}
 use Rattle.fields.specs.Fields.{askedOf}
-use Rattle.fields.proofs.Laws.{asked-two, asked-short}
+use Rattle.fields.proofs.Laws.{asked-two, asked-fits}
 use Rattle.lines.specs.Pieces.{rowsText, pieceText, pieceUsed}
 use Rattle.lines.specs.Squeeze.{handed, allLines, together}
-use Rattle.lines.proofs.Pieces.{rest-rows, used-some, rows-handed}
+use Rattle.lines.proofs.Pieces.{rest-rows, used-some, first-enough, rows-handed}
 use Rattle.table.specs.Lines.{lines}
 use Rattle.verdict.specs.declared.Verdict.{Verdict}
 use Rattle.verdict.specs.declared.Verdict.the-variants.{Bad}
@@ -52,9 +48,7 @@ row-long A L x h = rw (made-long A L x h, asked-two 2 x refl, asked-two 2 [] ref
 
 -- Of a line only the first 260 bytes matter: with more than 255 it is refused.
 pub row-first : (A L x : Bytes) → keyRow A L (take 260 x) ≡ keyRow A L x
-row-first A L x =
-    ⊎-elim (λ h. ap (keyRow A L) (take-all 260 x h))
-    (λ h. row-long A L (take 260 x) (omega (arith, length-take-le 260 x (omega arith))) ∙ sym (row-long A L x (omega arith))) (le-or-lt (length x) 260)
+row-first A L x = first-enough (keyRow A L) (answerText 2 [] (45 ∷ [])) (λ y h. row-long A L y (omega arith)) x
 
 sets-front : (text out : Bytes) → length text ≤ length out → sets out 0 text ≡ text ++ drop (length text) out
 sets-front text out h = sets-eq text out 0 (omega arith) ∙ (let z : 0 + length text ≡ length text = omega arith in rw z refl)
@@ -69,8 +63,8 @@ module _ (A L x : Bytes) (pass : check true false A L [] ≡ none) where
       read-short r (q .output) (q .back)
 
   made-proper : Proper (madeKey A L x)
-  unfolding madeKey whole operationOf
-  made-proper = subst Proper (sym (whole-minimised A L x) ∙ whole-good true A L x pass) (whole-proper A L [] minimise x)
+  unfolding madeKey operationOf
+  made-proper = minimised-proper A L x pass
 
   -- what was made, once it is in the buffer, is the row
   pub record Told (a : Answered) (form : Bytes) : Type 0 where
@@ -78,10 +72,9 @@ module _ (A L x : Bytes) (pass : check true false A L [] ≡ none) where
     pub few : a .len ≤ 255
     pub text : answerText (a .number) x (keptText (a .number) (take (a .len) form)) ≡ keyRow A L x
 
-  asked-fits : (n : ℕ) → n ≡ numberOf (madeKey A L x) → length (askedOf n x) ≤ 255
+  asked-small : (n : ℕ) → n ≡ numberOf (madeKey A L x) → length (askedOf n x) ≤ 255
   unfolding numberOf
-  asked-fits n e =
-      ⊎-elim (asked-short n x) (λ h. rw (asked-two n x (e ∙ ap numberOf (made-long A L x h))) (omega arith)) (le-or-lt (length x) 255)
+  asked-small n e = asked-fits n x (λ h. e ∙ ap numberOf (made-long A L x h))
 
   told-as : (a : Answered) (form form₀ : Bytes) (m : Made) → madeKey A L x ≡ m → length form₀ ≡ 256 → answerOf a form ≡ given m form₀ → Proper m → Told a form
   unfolding given answerOf keyRow numberOf keptOf keptText Proper
@@ -93,7 +86,7 @@ module _ (A L x : Bytes) (pass : check true false A L [] ≡ none) where
       let len : a .len ≡ length r = ap (λ (q : Given). q .len) h in
       let bytes : form ≡ r ++ drop (length r) form₀ = ap (λ (q : Given). q .output) h in
       record {
-        asked = asked-fits (a .number) (number ∙ sym (ap numberOf e));
+        asked = asked-small (a .number) (number ∙ sym (ap numberOf e));
         few = omega arith;
         text = rw (number, len, bytes, take-at r (drop (length r) form₀) (length r) refl, e);
       }
@@ -101,7 +94,7 @@ module _ (A L x : Bytes) (pass : check true false A L [] ≡ none) where
       let number : a .number ≡ n = ap (λ (q : Given). q .number) g in
       let len : a .len ≡ 0 = ap (λ (q : Given). q .len) g in
       record {
-        asked = asked-fits (a .number) (number ∙ sym (ap numberOf e));
+        asked = asked-small (a .number) (number ∙ sym (ap numberOf e));
         few = omega arith;
         text = rw (number, ne-eqb n 0 (λ z. omega (arith, q .0)), e);
       }

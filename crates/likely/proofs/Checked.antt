@@ -1,11 +1,13 @@
 -- From the tables' check to the whole operation. Assumes nothing.
-use mathlib.Core.Path.{_≡_, refl, ap, _∙_}
+use mathlib.Core.Path.{_≡_, refl, sym, ap, _∙_, subst}
 use mathlib.Core.Bool.{Bool, true, false}
 use mathlib.Core.List.{[]}
 use mathlib.Core.Option.{Option, none}
 use Rattle.standard.specs.Delivery.{Bytes, given}
+use Rattle.standard.specs.Calls.{minimise}
 use Rattle.standard.specs.Table.{TableFault, tablesOf, check}
-use Rattle.standard.specs.Make.{make, afterCheck, maximiseMade, minimiseMade}
+use Rattle.standard.specs.Make.{make, afterCheck, maximiseMade, minimiseMade, whole}
+use Rattle.standard.proofs.Numbers.{Proper, whole-proper}
 use Rattle.standard.proofs.Whole.{narrow-likely}
 use Rattle.verdict.proofs.Ordered.{check-sorted}
 use Rattle.canonical.specs.Answer.{answerOf, refusedAnswer}
@@ -43,7 +45,7 @@ tested-both A L e =
     }
 
 -- nothing is refused for tables that pass
-pub whole-good : (b : Bool) (A L x : Bytes) → check true false A L [] ≡ none → wholeMade b A L x ≡ make (tablesOf A L []) (operationOf b) x
+whole-good : (b : Bool) (A L x : Bytes) → check true false A L [] ≡ none → wholeMade b A L x ≡ make (tablesOf A L []) (operationOf b) x
 unfolding wholeMade afterCheck
 whole-good b A L x e = ap (λ (o : Option TableFault). afterCheck o (make (tablesOf A L []) (operationOf b) x)) e
 
@@ -54,6 +56,11 @@ whole-maximised A L x = refl
 pub whole-minimised : (A L x : Bytes) → wholeMade true A L x ≡ minimiseMade A L x
 unfolding wholeMade minimiseMade operationOf
 whole-minimised A L x = refl
+
+-- a refusal of minimising has a number
+pub minimised-proper : (A L x : Bytes) → check true false A L [] ≡ none → Proper (make (tablesOf A L []) (operationOf true) x)
+unfolding whole
+minimised-proper A L x e = subst Proper (sym (whole-minimised A L x) ∙ whole-good true A L x e) (whole-proper A L [] minimise x)
 
 -- what was made over tables that pass is the whole answer
 pub whole-answer : (b : Bool) (A L x : Bytes) (a : Answered) (r : Answer) (out out′ : Bytes) → check true false A L [] ≡ none → r ≡ answerBy a

@@ -5,12 +5,12 @@ use mathlib.Core.List.{[], _∷_, _++_}
 use mathlib.Core.Option.{none, some}
 use Prim.Native.Nat.{ℕ, _+_, _-_, _≤_, _<_}
 use native.Mathlib.Omega.{arith}
-use borrow.Author.Tests.{le-leb, lt-leb}
-use lib.Dec.{leb, leb→le}
+use borrow.Author.Tests.{le-leb, lt-leb, leb-true}
+use lib.Dec.{leb}
 use lib.ListN.{length, take, drop, length-append}
 use lib.Seq.{sets, sets-eq}
 use Rattle.standard.specs.Delivery.{Bytes, Made, refusal, form, Given, given}
-use Rattle.standard.proofs.Bytes.{true→T, bool-cases}
+use Rattle.standard.proofs.Bytes.{bool-cases}
 use Rattle.subtag.proofs.Stores.{sets-append}
 use Rattle.standard.specs.Tag.{pick}
 use Rattle.likely.specs.Kept.{keptParts}
@@ -73,7 +73,7 @@ unfolding lengthOr256 givenBy given madeForm shortForm
 given-long x out h = go (leb (length x) 255) refl h
   where
     go : (b : Bool) → leb (length x) 255 ≡ b → 255 < cond b (length x) 256 → givenBy Long out ≡ given (cond (leb (length x) 255) (form x) (refusal 9 0 0)) out
-    go true e k = let l : length x ≤ 255 = leb→le _ _ (true→T _ e) in absurd (omega arith)
+    go true e k = let l : length x ≤ 255 = leb-true _ _ e in absurd (omega arith)
     go false e k = rw e
 
 pub given-short : (x out : Bytes) → lengthOr256 (length x) ≤ 255 → length out < lengthOr256 (length x) → givenBy Short out ≡ given (madeForm x) out
@@ -123,7 +123,7 @@ pub made-long : (b : Bool) (L x : Bytes) (q : Parts) (out : Bytes) → 255 < len
 unfolding lengthOr256 madeOf shortForm givenBy given
 made-long b L x q out h =
     bool-cases (leb (length (bytesOf q x)) 255)
-    (λ e. let l : length (bytesOf q x) ≤ 255 = leb→le _ _ (true→T _ e) in let k : 255 < length (bytesOf q x) = rw e at h in absurd (omega arith))
+    (λ e. let l : length (bytesOf q x) ≤ 255 = leb-true _ _ e in let k : 255 < length (bytesOf q x) = rw e at h in absurd (omega arith))
     (λ e. rw e)
 
 kept-shorter : (k : Kept) (q : Parts) (x : Bytes) → length (bytesOf (keptParts k q) x) ≤ length (bytesOf q x)
@@ -139,7 +139,7 @@ pub made-kept : (b : Bool) (L x : Bytes) (q : Parts) (k : Kept) → b ≡ true �
 unfolding madeForm madeOf keptIf shortForm
 made-kept b L x q k t h e =
     let y = short-yes (bytesOf q x) h in
-    let n : length (bytesOf q x) ≤ 255 = leb→le _ _ (true→T _ y) in
+    let n : length (bytesOf q x) ≤ 255 = leb-true _ _ y in
     let m = kept-shorter k q x in
     let z : leb (length (bytesOf (keptParts k q) x)) 255 ≡ true = le-leb (length (bytesOf (keptParts k q) x)) 255 (omega arith) in
     rw (z, y, t, e)

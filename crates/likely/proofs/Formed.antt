@@ -6,7 +6,7 @@ use mathlib.Core.Option.{Option, none, some, Option·none-ne-some}
 use Prim.Native.Nat.{ℕ, _+_, _-_}
 use native.Mathlib.Omega.{arith}
 use lib.ListN.{length, take, drop, take-append-drop}
-use lib.Seq.{drop-drop, take-append-seam, drop-append-seam}
+use lib.Seq.{take-append-seam, drop-append-seam, drop-append-add}
 use Rattle.standard.specs.Delivery.{Bytes, Made as MadeBytes, refusal, Given, given}
 use types.Run.{OneOf}
 use denote.Enum.Declared.{tagOf}
@@ -16,18 +16,17 @@ use Rattle.likely.specs.declared.tested.Answered.the-variants.{Refused, 
 use Rattle.likely.specs.declared.forms.Outcome.{Outcome}
 use Rattle.canonical.specs.Answer.{givenRefused}
 use Rattle.canonical.proofs.Canonicalised.{Canonicalised, refusal-form, form-not, refusal-one}
+use Rattle.canonical.proofs.Wholes.{printable-among}
 use Rattle.likely.specs.Answered.{givenAnswered}
 use Rattle.standard.specs.Calls.{canonicalise}
 use Rattle.standard.specs.Identifier.{Three, Identifier, Tables, Answer, done, refused, canonical, canonicalForm, maximised, minimised, then, maximalThree, withoutUnknown, trial, withThree, part, size}
 use Rattle.standard.specs.Reading.{Read, good, bad, read}
 use Rattle.standard.specs.Table.{tablesOf, check}
 use Rattle.standard.specs.Make.{operate, made, makeOf, make}
-use Rattle.standard.proofs.Sound.{read-raw}
 use Rattle.standard.proofs.Core.{Full, maximal-full}
 use Rattle.standard.proofs.Operations.{bounded-done}
 use Rattle.standard.proofs.Round.{Shaped, Printable, length-print}
 use Rattle.standard.proofs.Closed.{fill-shaped, strip-shaped, core-printable}
-use Rattle.standard.proofs.Demand.{printable-of}
 use Rattle.standard.proofs.Table.{Passed, passed, good-tables, shaped-tables}
 use Rattle.standard.proofs.Whole.{same-canonical, narrow-likely}
 use Rattle.table.specs.Hints.{Indexed}
@@ -42,9 +41,6 @@ use Rattle.standard.specs.Tag.{Tag}
 use Rattle.likely.proofs.Delivered.{form-length}
 use Rattle.likely.proofs.Makes.{restOf, print-rest, maximised-made, minimised-made, shaped-short}
 
-drop-behind : (x y : Bytes) (n : ℕ) → drop (length x + n) (x ++ y) ≡ drop n y
-drop-behind x y n = sym (drop-drop n (length x) (x ++ y)) ∙ ap (drop n) (drop-append-seam x y)
-
 pub slices : (buf a b c d : Bytes) (l s r n : ℕ) → l ≡ length a → s ≡ l + length b → r ≡ s + length c → n ≡ r + length d → take n buf ≡ (a ++ (b ++ c)) ++ d → Slices buf a b c d l s r n
 slices buf a b c d l s r n el es er en e =
     let y = drop n buf in
@@ -54,9 +50,9 @@ slices buf a b c d l s r n el es er en e =
     let k₃ : n - r ≡ length d = omega arith in
     let d₁ : drop l buf ≡ b ++ (c ++ (d ++ y)) = ap₂ drop el z ∙ drop-append-seam a (b ++ (c ++ (d ++ y))) in
     let s₂ : s ≡ length a + length b = omega arith in
-    let d₂ : drop s buf ≡ c ++ (d ++ y) = ap₂ drop s₂ z ∙ (drop-behind a (b ++ (c ++ (d ++ y))) (length b) ∙ drop-append-seam b (c ++ (d ++ y))) in
+    let d₂ : drop s buf ≡ c ++ (d ++ y) = ap₂ drop s₂ z ∙ (drop-append-add a (b ++ (c ++ (d ++ y))) (length b) ∙ drop-append-seam b (c ++ (d ++ y))) in
     let r₂ : r ≡ length a + (length b + length c) = omega arith in
-    let d₃ : drop r buf ≡ d ++ y = ap₂ drop r₂ z ∙ (drop-behind a (b ++ (c ++ (d ++ y))) (length b + length c) ∙ (drop-behind b (c ++ (d ++ y)) (length c) ∙ drop-append-seam c (d ++ y))) in
+    let d₃ : drop r buf ≡ d ++ y = ap₂ drop r₂ z ∙ (drop-append-add a (b ++ (c ++ (d ++ y))) (length b + length c) ∙ (drop-append-add b (c ++ (d ++ y)) (length c) ∙ drop-append-seam c (d ++ y))) in
     record {
       first = ap₂ take el z ∙ take-append-seam a (b ++ (c ++ (d ++ y)));
       second = ap₂ take k₁ d₁ ∙ take-append-seam b (c ++ (d ++ y));
@@ -90,7 +86,7 @@ module _ (A L : Bytes) (pass : check true false A L [] ≡ none) (hints : Bytes)
 
   printable : Printable c
   unfolding operate
-  printable = printable-of T (good-tables A L [] ok) (shaped-tables A L [] ok) canonicalise (w .input) c (read-raw x (w .input) (w .reads)) canonicalises
+  printable = printable-among A L [] x canonicalise (w .input) c whole (w .reads) canonicalises
 
   shaped : (t : Three) → maximalThree T (withoutUnknown (c .core)) ≡ some t → Shaped t
   shaped t e = fill-shaped T (shaped-tables A L [] ok) (withoutUnknown (c .core)) t (strip-shaped T (shaped-tables A L [] ok) (c .core) (printable .core)) e

@@ -6,7 +6,7 @@ use mathlib.Core.Option.{Option, none, some}
 use Prim.Native.Nat.{ℕ, _+_, _-_}
 use native.Mathlib.Omega.{arith}
 use lib.ListN.{length, drop}
-use lib.Seq.{drop-drop, take-append-seam, drop-append-seam}
+use lib.Seq.{drop-append-add, take-append-seam, drop-append-seam}
 use Rattle.standard.specs.Tag.{Tag, order, same, pick, present, replace}
 use Rattle.standard.specs.Identifier.{Three, three, und, zzzz, zz, Tables, without, withoutUnknown, complete, orElse, row, over, overRow, maximalThree, trial, sameThree, hasThree, minimalThree, Kept}
 use Rattle.standard.specs.Reading.{optional, joined}
@@ -101,27 +101,19 @@ unfolding over overParts partsOf languageOf
 over-parts t r = rw (led-pick (t .script) (r .script), led-pick (t .region) (r .region))
 
 -- A value that was found, cut.
-dash-end : (at : ℕ) (x : Bytes) → NoDash x → dashFrom at x ≡ at + length x
-unfolding dashFrom NoDash
-dash-end at [] h = omega arith
-dash-end at (b ∷ bs) h = rw (h .0, dashFrom) (dash-end (at + 1) bs (h .1) ∙ omega arith)
-
 dash-more : (at : ℕ) (x y : Bytes) → NoDash x → dashFrom at (x ++ (45 ∷ y)) ≡ at + length x
 unfolding dashFrom NoDash
 dash-more at [] y h = omega arith
 dash-more at (b ∷ bs) y h = rw (h .0, dashFrom) (dash-more (at + 1) bs y (h .1) ∙ omega arith)
-
-drop-more : (l x : Bytes) (n : ℕ) → drop (length l + n) (l ++ x) ≡ drop n x
-drop-more l x n = sym (drop-drop n (length l) (l ++ x)) ∙ ap (drop n) (drop-append-seam l x)
 
 cut-three : (l s r : Bytes) → NoDash l → NoDash s → cutParts (l ++ ((45 ∷ s) ++ (45 ∷ r))) ≡ record { language = l; script = 45 ∷ s; region = 45 ∷ r }
 unfolding cutParts dash
 cut-three l s r nl ns =
     let x = (45 ∷ s) ++ (45 ∷ r) in
     let a : dashFrom 0 (l ++ x) ≡ length l = dash-more 0 l (s ++ (45 ∷ r)) nl ∙ omega arith in
-    let e : drop (length l + 1) (l ++ x) ≡ s ++ (45 ∷ r) = drop-more l x 1 in
+    let e : drop (length l + 1) (l ++ x) ≡ s ++ (45 ∷ r) = drop-append-add l x 1 in
     let b : dashFrom (length l + 1) (drop (length l + 1) (l ++ x)) ≡ length l + length (45 ∷ s) = ap (dashFrom (length l + 1)) e ∙ (dash-more (length l + 1) s r ns ∙ omega arith) in
-    let f : drop (length l + length (45 ∷ s)) (l ++ x) ≡ 45 ∷ r = drop-more l x (length (45 ∷ s)) ∙ drop-append-seam (45 ∷ s) (45 ∷ r) in
+    let f : drop (length l + length (45 ∷ s)) (l ++ x) ≡ 45 ∷ r = drop-append-add l x (length (45 ∷ s)) ∙ drop-append-seam (45 ∷ s) (45 ∷ r) in
     let g : (length l + length (45 ∷ s)) - length l ≡ length (45 ∷ s) = omega arith in
     rw (a) (rw (b) (rw (f, g, drop-append-seam l x, take-append-seam l x, take-append-seam (45 ∷ s) (45 ∷ r))))
 

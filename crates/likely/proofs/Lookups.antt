@@ -6,7 +6,7 @@ use Prim.Native.Nat.{ℕ, _+_, _-_, _≤_, _<_}
 use native.Mathlib.Omega.{arith}
 use native.Mathlib.Numerals.{add-one}
 use borrow.Author.Tests.{eq-eqb, ne-eqb, le-leb, lt-leb}
-use lib.Dec.{eqb, leb, leb→le}
+use lib.Dec.{eqb, leb}
 use mathlib.Core.Option.{Option, none, some}
 use lib.ListN.{length, getD, take, drop, drop-of-length-le, length-append, length-drop}
 use lib.Seq.{take-all, take-nil, drop-cons, sets, sets-eq, take-append-seam}
@@ -14,7 +14,7 @@ use Rattle.standard.specs.Tag.{same, pick, present}
 use Rattle.standard.specs.Identifier.{und}
 use Rattle.standard.specs.Delivery.{Bytes}
 use Rattle.standard.specs.Table.{lookup, rows, located}
-use Rattle.standard.proofs.Bytes.{clash, true→T, and-true, bool-cases}
+use Rattle.standard.proofs.Bytes.{clash, and-true, bool-cases}
 use Rattle.table.specs.Lines.{valueOf, valueOr, isFound}
 use Rattle.table.proofs.Lines.{value-located, found-located}
 use Rattle.subtag.proofs.Stores.{sets-append}
@@ -206,9 +206,6 @@ pub ready-language : {L hints : Bytes} (l s r z : Bytes) → length z ≡ 0 → 
 ready-language l s r z e q = record { indexed = q .indexed; short = omega (arith, q .short) }
 
 -- parts that have no room in a key
-pub leb-le : (m n : ℕ) → leb m n ≡ true → m ≤ n
-leb-le m n e = leb→le m n (true→T (leb m n) e)
-
 pub no-room : (L hints : Bytes) (p : Parts) {X Y : Type 0} {b : Bool} → b ≡ leb (length (p .language) + length (p .script) + length (p .region)) 32 → b ≡ false → (Ready L hints p → X) × (Ready L hints p → Y)
 no-room L hints p {X} {Y} e f = ((λ q. gone q), (λ q. gone q))
   where

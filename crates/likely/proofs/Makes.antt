@@ -1,26 +1,25 @@
 -- What is made by parts is what the standard makes of a canonical identifier. Assumes nothing.
 use mathlib.Core.Path.{_≡_, refl, sym, ap, ap₂, _∙_}
 use mathlib.Core.Bool.{Bool, true, false, cond}
-use mathlib.Core.Logic.{_⊎_, inl, inr}
+use mathlib.Core.Logic.{⊎-elim}
 use mathlib.Core.List.{[], _∷_, _++_, append-nil, append-assoc}
 use mathlib.Core.Option.{Option, none, some}
-use Prim.Native.Nat.{ℕ, suc, _+_, _≤_}
+use Prim.Native.Nat.{ℕ, _+_, _≤_}
 use native.Mathlib.Omega.{arith}
 use lib.Dec.{leb}
 use lib.ListN.{length}
 use Rattle.standard.specs.Tag.{Tag}
-use Rattle.standard.specs.Grammar.{sizeOf, isLanguage, languageSize, Kind, aScript, aRegion, aVariant, aNone, kind, kindOf, flat, title, upper}
+use Rattle.standard.specs.Grammar.{flat}
 use Rattle.standard.specs.Identifier.{Three, Identifier, Tables, Answer, done, refused, bounded, size, withThree, filled, then, maximalThree, minimalThree, withoutUnknown}
 use Rattle.standard.specs.Reading.{optional, print}
 use Rattle.standard.specs.Delivery.{Bytes, refusal, form}
 use Rattle.standard.specs.Table.{tablesOf, check}
 use Rattle.standard.specs.Make.{made}
-use Rattle.standard.proofs.Bytes.{clash}
-use Rattle.standard.proofs.Faults.{Maybe}
-use Rattle.standard.proofs.Round.{Shown, Shaped, Printable, length-print}
+use Rattle.standard.proofs.Round.{Shaped, Printable, length-print}
 use Rattle.standard.proofs.Core.{Full}
 use Rattle.arranging.specs.Section.{led}
 use Rattle.canonical.proofs.Print.{print-led}
+use Rattle.canonical.proofs.Words.{language-size, script-size, region-size}
 use Rattle.likely.specs.Parts.{ledPart, Parts, partsOf, joinedParts, knownParts, fillParts}
 use Rattle.likely.specs.Forms.{shortForm, bytesOf, keptIf, madeOf, madeFilled, madeParts}
 use Rattle.likely.proofs.Laws.{known-parts, mapParts, fill-parts, minimal-parts}
@@ -98,56 +97,6 @@ module _ (A L P : Bytes) (pass : check true true A L P ≡ none) (c : Identifier
           (with-print c (minimalThree T t) ∙ ap (λ (q : Parts). bytesOf q (restOf c)) (sym (minimal-parts A L P pass t (f t e))))
 
 -- A shaped three has room in a key.
-abbrev isNoKind : Kind → Bool
-isNoKind aScript = true
-isNoKind aRegion = true
-isNoKind aVariant = true
-isNoKind aNone = false
-
-language-short : (t : Tag) → isLanguage t ≡ true → length t ≤ 8
-unfolding isLanguage languageSize sizeOf
-language-short [] e = omega arith
-language-short (a ∷ []) e = omega arith
-language-short (a ∷ b ∷ []) e = omega arith
-language-short (a ∷ b ∷ c ∷ []) e = omega arith
-language-short (a ∷ b ∷ c ∷ d ∷ []) e = omega arith
-language-short (a ∷ b ∷ c ∷ d ∷ f ∷ []) e = omega arith
-language-short (a ∷ b ∷ c ∷ d ∷ f ∷ g ∷ []) e = omega arith
-language-short (a ∷ b ∷ c ∷ d ∷ f ∷ g ∷ h ∷ []) e = omega arith
-language-short (a ∷ b ∷ c ∷ d ∷ f ∷ g ∷ h ∷ i ∷ []) e = omega arith
-language-short (a ∷ b ∷ c ∷ d ∷ f ∷ g ∷ h ∷ i ∷ j ∷ t) e = clash {b = false} e refl
-
-kind-short : (t : Tag) → (kindOf t ≡ aNone → ⊥) → length t ≤ 8
-unfolding kindOf kind sizeOf
-kind-short [] e = omega arith
-kind-short (a ∷ []) e = omega arith
-kind-short (a ∷ b ∷ []) e = omega arith
-kind-short (a ∷ b ∷ c ∷ []) e = omega arith
-kind-short (a ∷ b ∷ c ∷ d ∷ []) e = omega arith
-kind-short (a ∷ b ∷ c ∷ d ∷ f ∷ []) e = omega arith
-kind-short (a ∷ b ∷ c ∷ d ∷ f ∷ g ∷ []) e = omega arith
-kind-short (a ∷ b ∷ c ∷ d ∷ f ∷ g ∷ h ∷ []) e = omega arith
-kind-short (a ∷ b ∷ c ∷ d ∷ f ∷ g ∷ h ∷ i ∷ []) e = omega arith
-kind-short (a ∷ b ∷ c ∷ d ∷ f ∷ g ∷ h ∷ i ∷ j ∷ t) e = absurd (e refl)
-
-title-length : (t : Tag) → length (title t) ≡ length t
-unfolding title
-title-length [] = refl
-title-length (b ∷ bs) = refl
-
-upper-length : (t : Tag) → length (upper t) ≡ length t
-unfolding upper
-upper-length [] = refl
-upper-length (b ∷ bs) = ap suc (upper-length bs)
-
-shown-short : (k : Kind) (f : Tag → Tag) (s : Tag) → (k ≡ aNone → ⊥) → ((t : Tag) → length (f t) ≡ length t) → Shown k f s → length s ≤ 8
-unfolding Maybe
-shown-short k f s n l h = go (h .kind)
-  where
-    go : (h .token ≡ []) ⊎ (kindOf (h .token) ≡ k) → length s ≤ 8
-    go (inl e) = let a = ap length (h .stored) ∙ (l (h .token) ∙ ap length e) in omega (arith, a)
-    go (inr e) = let a = ap length (h .stored) ∙ l (h .token) in let b = kind-short (h .token) (λ q. n (sym e ∙ q)) in omega (arith, a, b)
-
 led-length : (t : Tag) → length (ledPart t) ≤ length t + 1
 unfolding ledPart
 led-length [] = omega arith
@@ -156,15 +105,9 @@ led-length (b ∷ bs) = omega arith
 pub shaped-short : (t : Three) → Shaped t → length ((partsOf t) .language) + length ((partsOf t) .script) + length ((partsOf t) .region) ≤ 26
 unfolding partsOf
 shaped-short t h =
-    let a = language-short (t .language) (h .language) in
-    let b = shown-short aScript title (t .script) script-not title-length (h .script) in
-    let c = shown-short aRegion upper (t .region) region-not upper-length (h .region) in
+    let a = language-size (t .language) (h .language) in
+    let b : length (t .script) ≤ 4 = ⊎-elim (λ q. let z = ap length q in omega arith) (λ q. omega arith) (script-size (t .script) (h .script)) in
+    let c = region-size (t .region) (h .region) in
     let d = led-length (t .script) in
     let e = led-length (t .region) in
     omega arith
-  where
-    script-not : aScript ≡ aNone → ⊥
-    script-not q = clash {b = isNoKind aScript} refl (ap isNoKind q)
-
-    region-not : aRegion ≡ aNone → ⊥
-    region-not q = clash {b = isNoKind aRegion} refl (ap isNoKind q)

@@ -5,7 +5,7 @@ use mathlib.Core.Logic.{⊎-elim}
 use Prim.Native.Nat.{ℕ, zero, suc, _+_, _-_, _≤_, _<_}
 use native.Mathlib.Omega.{arith}
 use lib.ListN.{length, take, drop, length-append, length-drop, drop-of-length-le}
-use lib.Seq.{sets, drop-drop, length-sets, length-take-le}
+use lib.Seq.{sets, drop-drop, length-sets, length-take-le, take-all}
 use borrow.Author.Tests.{le-leb, lt-leb}
 use Rattle.subtag.proofs.Stores.{sets-append}
 use Rattle.subtag.proofs.Walk.{le-or-lt}
@@ -152,6 +152,12 @@ module _ (row : Bytes → Bytes) (need : ℕ) where
   -- the same of the rest of a piece, as code lends it
   pub used-rest : (room : ℕ) (x : Bytes) (from : ℕ) → need ≤ room → from < length x → 0 < pieceUsed row need room (take (length x - from) (drop from x))
   used-rest room x from h k = used-some room (take (length x - from) (drop from x)) h (omega (arith, rest-length x from))
+
+-- Of a line only the first 260 bytes matter where all lines of more than 258 bytes are answered alike.
+pub first-enough : {B : Type 0} (answer : Bytes → B) (same : B) → ((x : Bytes) → 258 < length x → answer x ≡ same) → (x : Bytes) → answer (take 260 x) ≡ answer x
+first-enough answer same long x =
+    ⊎-elim (λ h. ap answer (take-all 260 x h))
+    (λ h. long (take 260 x) (omega (arith, length-take-le 260 x (omega arith))) ∙ sym (long x (omega arith))) (le-or-lt (length x) 260)
 
 -- A program over the line reader: where of a line only the first 260 bytes matter, the rows of the lines that are handed
 -- over are the rows of the lines of the input, wherever its blocks end.

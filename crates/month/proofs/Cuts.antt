@@ -1,19 +1,17 @@
 -- Of a usage line only the first 260 bytes matter: behind a tab at the third place or before it, they hold more than an
 -- identifier has. Assumes nothing.
-use mathlib.Core.Path.{_≡_, refl, sym, ap, _∙_}
+use mathlib.Core.Path.{_≡_, refl, ap, _∙_}
 use mathlib.Core.Bool.{Bool, true, false}
-use mathlib.Core.Logic.{⊎-elim}
 use mathlib.Core.List.{[], _∷_}
 use mathlib.Core.Option.{Option, none, some}
 use Prim.Native.Nat.{ℕ, _<_}
 use native.Mathlib.Omega.{arith}
 use lib.Dec.{eqb}
 use lib.ListN.{length, take}
-use lib.Seq.{take-all, length-take-le}
 use Rattle.standard.specs.Identifier.{Tables}
 use Rattle.standard.specs.Delivery.{Bytes}
 use Rattle.standard.proofs.Long.{read-long}
-use Rattle.subtag.proofs.Walk.{le-or-lt}
+use Rattle.lines.proofs.Pieces.{first-enough}
 use Rattle.billing.specs.Bill.{memberOf, beforeTab, afterTab, keyOf, keyOfRead, usageBy, usageAt, usage}
 
 key-long : (T : Tables) (x : Bytes) → 255 < length x → keyOf T x ≡ none
@@ -90,6 +88,4 @@ long-refused T (a ∷ b ∷ c ∷ l) h = first (eqb a 9) refl
     first false e = second e (eqb b 9) refl
 
 pub usage-first : (T : Tables) (l : Bytes) → usage T (take 260 l) ≡ usage T l
-usage-first T l =
-    ⊎-elim (λ h. ap (usage T) (take-all 260 l h))
-    (λ h. long-refused T (take 260 l) (let z = length-take-le 260 l (omega arith) in omega (arith, z)) ∙ sym (long-refused T l (omega arith))) (le-or-lt (length l) 260)
+usage-first T l = first-enough (usage T) none (long-refused T) l

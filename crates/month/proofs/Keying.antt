@@ -19,12 +19,10 @@ use Rattle.standard.specs.Identifier.{Three, Identifier, Tables, Answer, done, 
 use Rattle.standard.specs.Reading.{Read, good, bad, read, print}
 use Rattle.standard.specs.Table.{tablesOf, check}
 use Rattle.standard.specs.Make.{operate, made, makeOf, make, whole}
-use Rattle.standard.proofs.Sound.{read-raw}
-use Rattle.standard.proofs.Numbers.{Proper, whole-proper, refusal-not}
+use Rattle.standard.proofs.Numbers.{Proper, refusal-not}
 use Rattle.standard.proofs.Operations.{bounded-done, maximised-form, maximised-maximal, minimised-done, shrunk, shrunk-canonical}
 use Rattle.standard.proofs.Round.{length-print}
-use Rattle.standard.proofs.Demand.{printable-of}
-use Rattle.standard.proofs.Table.{Passed, passed, good-tables, shaped-tables}
+use Rattle.standard.proofs.Table.{Passed, passed, good-tables}
 use Rattle.standard.proofs.Whole.{narrow-likely}
 use Rattle.table.specs.Hints.{Indexed}
 use Rattle.canonical.proofs.form.Canon.{the-type}
@@ -38,10 +36,11 @@ use Rattle.likely.specs.Parts.{Parts, partsOf, joinedParts}
 use Rattle.likely.specs.Slices.{Slices}
 use Rattle.likely.specs.Both.{operationOf}
 use Rattle.likely.specs.Answered.{givenAnswered}
-use Rattle.likely.proofs.Checked.{whole-good, whole-minimised}
+use Rattle.likely.proofs.Checked.{minimised-proper}
 use Rattle.likely.proofs.Laws.{print-parts}
 use Rattle.likely.proofs.Makes.{restOf, print-rest, shaped-short}
 use Rattle.canonical.proofs.Canonicalised.{Canonicalised, refusal-form}
+use Rattle.canonical.proofs.Wholes.{printable-among}
 use Rattle.likely.proofs.Formed.{refused-made, made-answer, canonicalises, rest-length}
 use Rattle.billing.specs.Bill.{keyOfAnswer, keyOfRead, keyOf}
 use Rattle.month.specs.Keys.{keyIs, withoutRest}
@@ -136,7 +135,7 @@ module _ (A L : Bytes) (pass : check true false A L [] ≡ none) (hints : Bytes)
   unfolding operate canonical shrunk bytesOf
   minimised-is m e =
       let g = good-tables A L [] ok in
-      let p = printable-of T g (shaped-tables A L [] ok) minimise (w .input) m (read-raw x (w .input) (w .reads)) e in
+      let p = printable-among A L [] x minimise (w .input) m (narrow-likely A L ∙ pass) (w .reads) e in
       let d = minimised-done T g (w .input) m e in
       let q = maximised-form T g (w .input) (d .0) (d .1) in
       let k = (bounded-done (canonicalForm T (w .input)) (w .form) (canonicalises A L pass hints indexed x f buf w)) .0 in
@@ -169,7 +168,7 @@ module _ (A L : Bytes) (pass : check true false A L [] ≡ none) (hints : Bytes)
       keys a e = rw (w .reads, e)
 
       proper : Proper (make T (operationOf true) x)
-      proper = subst Proper (sym (whole-minimised A L x) ∙ whole-good true A L x pass) (whole-proper A L [] minimise x)
+      proper = minimised-proper A L x pass
 
       go : (a : Answer) → minimised T (w .input) ≡ a → (keyIs (withoutRest o (f .len - f .region)) out′ ≡ keyOf T x) × (withoutRest o (f .len - f .region) ≤ 26)
       go (refused n) e =

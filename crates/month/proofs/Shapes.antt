@@ -13,14 +13,6 @@ use Rattle.table.specs.Lines.{endOf}
 use Rattle.billing.specs.Bill.{leading, memberOf, beforeTab, afterTab}
 use Rattle.month.specs.Shapes.{orZero, memberIf, Shaped}
 
-and-false : (a b : Bool) → b ≡ false → (a && b) ≡ false
-and-false true b e = e
-and-false false b e = refl
-
-not-leading : (d : ℕ) → (leb 49 d && leb d 57) ≡ false → leading d ≡ false
-unfolding leading
-not-leading d e = e
-
 pub one-low : (d : ℕ) → d < 49 → 0 ≡ orZero (memberOf (d ∷ []))
 unfolding orZero memberOf leading
 one-low d h = rw (lt-leb 49 d h)

@@ -7,7 +7,8 @@ use Prim.Native.Nat.{ℕ, _+_, _≤_}
 use native.Mathlib.Omega.{arith}
 use types.Run.{OneOf}
 use denote.Enum.Declared.{tagOf}
-use lib.Dec.{leb, leb→le}
+use borrow.Author.Tests.{leb-true}
+use lib.Dec.{leb}
 use lib.ListN.{length, take, drop, length-append}
 use lib.Seq.{sets, sets-eq, take-take, take-append-seam}
 use Rattle.standard.specs.Tag.{Tag}
@@ -19,11 +20,7 @@ use Rattle.standard.specs.Reading.{Read, good, bad, read, print, optional}
 use Rattle.standard.specs.Chain.{line}
 use Rattle.standard.specs.Table.{tablesOf, check}
 use Rattle.standard.specs.Make.{operate, identifier, printLine, listing, chainOf, listed, chainMade, chainFrom}
-use Rattle.standard.proofs.Bytes.{true→T}
-use Rattle.standard.proofs.Sound.{read-raw}
-use Rattle.standard.proofs.Demand.{printable-of}
 use Rattle.standard.proofs.Lines.{Plain}
-use Rattle.standard.proofs.Table.{passed, good-tables, shaped-tables}
 use Rattle.standard.proofs.Whole.{same-canonical, narrow-parents}
 use Rattle.canonical.proofs.form.Canon.{the-type}
 use Rattle.canonical.specs.declared.form.Form.{Form}
@@ -33,12 +30,13 @@ use Rattle.canonical.specs.Form.{refusal as refused-as, formOf, formed, canonic
 use Rattle.canonical.proofs.Print.{print-led}
 use Rattle.canonical.specs.Answer.{givenRefused}
 use Rattle.canonical.proofs.Canonicalised.{Canonicalised, refusal-form, refusal-one, form-not}
+use Rattle.canonical.proofs.Wholes.{printable-among}
 use Rattle.parents.specs.declared.lines.Listed.{Listed}
 use Rattle.parents.specs.declared.tested.Answered.the-variants.{Refused, Lines}
 use Rattle.parents.specs.Texts.{chainText}
 use Rattle.parents.specs.Listed.{Lists, listedOf, outAfter}
 use Rattle.parents.specs.Answered.{givenListed, givenAnswered}
-use Rattle.parents.proofs.Laws.{chain-text}
+use Rattle.parents.proofs.Laws.{first-plain, chain-text}
 
 -- a refusal of canonicalising stands
 refused-chain : (A P x : Bytes) (n p : ℕ) → outcome A x ≡ refused-as n p → chainFrom (tablesOf A [] P) (read x) ≡ refusal n p 0
@@ -137,9 +135,7 @@ module _ (A P x : Bytes) (f : Form) (buf : Bytes) (w : Canonicalised A x f buf) 
 
     plain : Plain (line (c .core) (c .variants))
     unfolding operate
-    plain =
-        let h = printable-of T (good-tables A [] P (passed A [] P whole)) (shaped-tables A [] P (passed A [] P whole)) canonicalise (w .input) c (read-raw x (w .input) (w .reads)) canonicalises in
-        record { core = h .core; variants = h .variants; words = h .variant-words; ascend = h .variants-ascend }
+    plain = first-plain c (printable-among A [] P x canonicalise (w .input) c whole (w .reads) canonicalises)
 
     lines-are : chainText P (f .count + 10) (f .count) (take (f .variants) buf) ≡ chainOf T c
     unfolding chainOf formOf
@@ -166,6 +162,6 @@ module _ (A P x : Bytes) (f : Form) (buf : Bytes) (w : Canonicalised A x f buf) 
         go ls k false e = let z = zero-plus (length (listing ls)) in rw (k .listed, k .written, z, e)
         go ls k true e =
             let z = zero-plus (length (listing ls)) in
-            let h : length (listing ls) ≤ length out = leb→le _ _ (true→T _ e) in
+            let h : length (listing ls) ≤ length out = leb-true _ _ e in
             let q : sets out 0 (listing ls) ≡ listing ls ++ drop (length (listing ls)) out = sets-eq (listing ls) out 0 (omega arith) ∙ ap (λ (m : ℕ). listing ls ++ drop m out) z in
             rw (k .listed, k .written, z, e, q)

@@ -4,13 +4,13 @@ use mathlib.Core.Bool.{Bool, true, false}
 use mathlib.Core.List.{[]}
 use mathlib.Core.Option.{none, Option·some-ne-none}
 use Prim.Native.Nat.{ℕ, _≤_}
-use lib.Dec.{leb, leb→le}
+use borrow.Author.Tests.{leb-true}
+use lib.Dec.{leb}
 use lib.ListN.{length}
 use Rattle.standard.specs.Delivery.{Bytes, given}
 use Rattle.standard.specs.Reading.{fault, read}
 use Rattle.standard.specs.Table.{tooBig, inTable, tablesOf, check}
 use Rattle.standard.specs.Make.{chainFrom, listMade}
-use Rattle.standard.proofs.Bytes.{true→T}
 use Rattle.standard.proofs.Table.{firstTable-none}
 use Rattle.standard.proofs.Whole.{narrow-parents}
 use Rattle.verdict.proofs.Ordered.{check-sorted}
@@ -51,7 +51,7 @@ unfolding inTable tooBig
 not-big n x e = go (leb (length x) 32768) refl e
   where
     go : (b : Bool) → leb (length x) 32768 ≡ b → inTable true n (elim b [ true ↦ none | false ↦ fault 11 0 ]) ≡ none → length x ≤ 32768
-    go true f q = leb→le _ _ (true→T _ f)
+    go true f q = leb-true _ _ f
     go false f q = absurd (Option·some-ne-none _ q)
 
 parents-small : (A P : Bytes) → check false true A [] P ≡ none → length P ≤ 32768

@@ -5,14 +5,13 @@ use mathlib.Core.List.{List, [], _∷_, _++_, map, append-nil, append-assoc}
 use mathlib.Core.Option.{Option, none, some}
 use Prim.Native.Nat.{ℕ, zero, suc, _+_, _-_, _≤_, _<_}
 use native.Mathlib.Omega.{arith}
-use native.Mathlib.Nat.{zero-add, suc-add}
 use borrow.Author.Tests.{lt-ltb, le-ltb, eq-eqb}
 use lib.Dec.{eqb, ltb}
 use lib.ListN.{length, getD, take, length-append}
-use lib.Seq.{take-append-seam, getD-append-seam}
+use lib.Seq.{take-append-seam, getD-append-seam, getD-append-add}
 use Rattle.standard.specs.Tag.{Tag, order, same, present}
 use Rattle.standard.specs.Grammar.{flat, title, upper, aScript, aRegion, isLanguage, languageSize, sizeOf, every, small}
-use Rattle.standard.specs.Identifier.{Three, three, und, Tables}
+use Rattle.standard.specs.Identifier.{Three, three, und, Identifier, Tables}
 use Rattle.standard.specs.Reading.{optional, rest, tags, joined, print}
 use Rattle.standard.specs.Delivery.{Bytes}
 use Rattle.standard.specs.Chain.{Line, line, allButLast, shorter, parentOf, parent, isRoot, chain}
@@ -24,15 +23,15 @@ use Rattle.standard.proofs.Sound.{shown-none}
 use Rattle.standard.proofs.Dashes.{NoDash, printed-dash}
 use Rattle.standard.proofs.Bytes.{clash, bool-cases}
 use Rattle.standard.proofs.Split.{AllPrinted, no-tag, tag}
-use Rattle.standard.proofs.Round.{all-printed, language-printed}
+use Rattle.standard.proofs.Round.{Printable, all-printed, language-printed}
 use Rattle.standard.proofs.Lines.{Plain, plain-printable, parent-plain, print-injective}
 use Rattle.standard.proofs.Listing.{root-printed}
 use Rattle.standard.proofs.Table.{Passed, passed, three-printed, parent-value, parents-shaped}
 use Rattle.parents.specs.Texts.{lastBelow, lastDash, withoutLast, parentBy, rowText, parentText, chainText}
 
-get-behind : (x z : Bytes) (j : ℕ) → getD (x ++ z) (length x + j) 0 ≡ getD z j 0
-get-behind [] z j = rw zero-add
-get-behind (a ∷ x) z j = rw suc-add (get-behind x z j)
+-- the line that the chain of a printable identifier starts with
+pub first-plain : (c : Identifier) → Printable c → Plain (line (c .core) (c .variants))
+first-plain c h = record { core = h .core; variants = h .variants; words = h .variant-words; ascend = h .variants-ascend }
 
 no-dash-at : (y : Bytes) (k : ℕ) → NoDash y → k < length y → eqb (getD y k 0) 45 ≡ false
 unfolding NoDash
@@ -49,7 +48,7 @@ last-in x y zero m h e k =
     rw (g, lastBelow) q
 last-in x y (suc n) zero h e k = absurd (omega arith)
 last-in x y (suc n) (suc m) h e k =
-    let v : getD (x ++ (45 ∷ y)) (suc m) 0 ≡ getD y n 0 = ap (λ (j : ℕ). getD (x ++ (45 ∷ y)) j 0) e ∙ get-behind x (45 ∷ y) (suc n) in
+    let v : getD (x ++ (45 ∷ y)) (suc m) 0 ≡ getD y n 0 = ap (λ (j : ℕ). getD (x ++ (45 ∷ y)) j 0) e ∙ getD-append-add x (45 ∷ y) (suc n) 0 in
     let g : eqb (getD (x ++ (45 ∷ y)) (suc m) 0) 45 ≡ false = ap (λ (j : ℕ). eqb j 45) v ∙ no-dash-at y n h (omega arith) in
     rw (g, lastBelow) (last-in x y n m h (omega arith) (omega arith))
 

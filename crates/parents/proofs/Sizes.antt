@@ -5,7 +5,8 @@ use mathlib.Core.List.{List, [], _∷_}
 use mathlib.Core.Option.{Option, none, some, Option·none-ne-some}
 use Prim.Native.Nat.{ℕ, zero, suc, _+_, _-_, _*_, _≤_, _<_}
 use native.Mathlib.Omega.{arith}
-use lib.Dec.{leb, ltb, leb→le}
+use borrow.Author.Tests.{leb-true}
+use lib.Dec.{leb, ltb}
 use lib.ListN.{length, take, length-append}
 use Rattle.standard.specs.Tag.{Tag, same}
 use Rattle.standard.specs.Grammar.{aVariant, kind, kindOf, variantKind, sizeOf, flat}
@@ -16,20 +17,18 @@ use Rattle.standard.specs.Reading.{read, good}
 use Rattle.standard.specs.Chain.{line}
 use Rattle.standard.specs.Table.{lookup, rows, located, tablesOf, check}
 use Rattle.standard.specs.Make.{operate, identifier, printLine, listing, chainOf}
-use Rattle.standard.proofs.Bytes.{clash, true→T}
+use Rattle.standard.proofs.Bytes.{clash}
 use Rattle.standard.proofs.Tags.{All}
 use Rattle.standard.proofs.Faults.{Variants}
-use Rattle.standard.proofs.Sound.{read-raw}
 use Rattle.standard.proofs.Operations.{bounded-done}
 use Rattle.standard.proofs.Round.{Printable, length-print}
 use Rattle.standard.proofs.Lines.{Plain, plain-printable}
-use Rattle.standard.proofs.Demand.{printable-of}
-use Rattle.standard.proofs.Table.{passed, good-tables, shaped-tables}
+use Rattle.canonical.proofs.Wholes.{printable-among}
 use Rattle.standard.proofs.Whole.{narrow-parents}
 use Rattle.table.specs.Lines.{valueOr}
 use Rattle.table.proofs.Lines.{value-located}
 use Rattle.parents.specs.Texts.{withoutLast, lastDash, parentBy, rowText, parentText, chainText}
-use Rattle.parents.proofs.Laws.{chain-text}
+use Rattle.parents.proofs.Laws.{first-plain, chain-text}
 use Rattle.parents.proofs.Writing.{part-le, cut-le}
 use Rattle.parents.proofs.Checked.{tested-chain}
 
@@ -104,14 +103,14 @@ module _ (A P x : Bytes) (i c : Identifier) (pass : check false true A [] P ≡ 
 
   printable : Printable c
   unfolding operate
-  printable = printable-of T (good-tables A [] P (passed A [] P whole)) (shaped-tables A [] P (passed A [] P whole)) canonicalise i c (read-raw x i r) d
+  printable = printable-among A [] P x canonicalise i c whole r d
 
   plain : Plain (line (c .core) (c .variants))
-  plain = record { core = printable .core; variants = printable .variants; words = printable .variant-words; ascend = printable .variants-ascend }
+  plain = first-plain c printable
 
   form-short : size c ≤ 255
   unfolding canonical
-  form-short = let q = bounded-done (canonicalForm T i) c d in leb→le _ _ (true→T _ (ap (λ (j : Identifier). leb (size j) 255) (sym (q .0)) ∙ q .1))
+  form-short = let q = bounded-done (canonicalForm T i) c d in leb-true _ _ (ap (λ (j : Identifier). leb (size j) 255) (sym (q .0)) ∙ q .1)
 
   line-length : length (printLine (line (c .core) (c .variants))) ≤ 255
   unfolding printLine size identifier flat parts

@@ -5,13 +5,13 @@ use mathlib.Core.List.{List, [], _∷_, _++_, append-assoc}
 use mathlib.Core.Option.{Option, none, some}
 use Prim.Native.Nat.{ℕ, zero, suc, _+_, _-_, _≤_, _<_}
 use native.Mathlib.Omega.{arith}
-use borrow.Author.Tests.{le-leb, lt-leb, lt-ltb, le-ltb, eq-eqb, ne-eqb}
-use lib.Dec.{leb, ltb, leb→le}
+use borrow.Author.Tests.{le-leb, lt-leb, lt-ltb, le-ltb, eq-eqb, ne-eqb, leb-true}
+use lib.Dec.{leb, ltb}
 use lib.ListN.{length, getD, take, drop, set, length-append, length-drop}
 use lib.Seq.{sets, sets-eq, length-sets, length-take-le, take-append-le, take-take, drop-append-seam}
 use Rattle.standard.specs.Tag.{same}
 use Rattle.standard.specs.Identifier.{und}
-use Rattle.standard.proofs.Bytes.{clash, true→T}
+use Rattle.standard.proofs.Bytes.{clash}
 use Rattle.standard.specs.Delivery.{Bytes}
 use Rattle.standard.specs.Make.{listing}
 use Rattle.standard.specs.Table.{lookup, rows, located}
@@ -214,7 +214,7 @@ lists-more at next out out₁ out₂ x ls rest r e k h a w =
     go n ll lx true f =
         let g : rest .fits ≡ true = ap (λ (q : Listed). q .fits) (h .listed) ∙ f in
         let o : out₁ ≡ sets out next (listing ls) = h .written ∙ rw f in
-        let b : next + length (listing ls) ≤ length out = leb→le _ _ (true→T _ f) in
+        let b : next + length (listing ls) ≤ length out = leb-true _ _ f in
         let m : next ≡ at + length (x ++ (10 ∷ [])) = omega arith in
         rw (g, n, f)
         (ap (λ (q : Bytes). sets q at (x ++ (10 ∷ []))) (o ∙ ap (λ (j : ℕ). sets out j (listing ls)) m)
@@ -270,7 +270,7 @@ bounded-more allowed at next x p out rest r out₁ out₂ z e h a w =
 pub front-fits : (allowed at next : ℕ) (x p out : Bytes) (rest : Listed) (out₁ : Bytes) → next ≡ at + length x + 1 → Bounded allowed next p out rest out₁
     → rest .fits ≡ true → at + length x < length out₁
 front-fits allowed at next x p out rest out₁ e h f =
-    let b : rest .end ≤ length out = leb→le _ _ (true→T _ (sym (h .fits) ∙ f)) in
+    let b : rest .end ≤ length out = leb-true _ _ (sym (h .fits) ∙ f) in
     omega (arith, h .behind, h .same)
 
 pub lists-as : {at : ℕ} {out : Bytes} {ls ms : List Bytes} {r : Listed} {out′ : Bytes} → ls ≡ ms → Lists at out ms r out′ → Lists at out ls r out′

@@ -1,5 +1,6 @@
 use mathlib.Core.Path.{sym, _∙_}
-use Rattle.likely.proofs.Lookups.{no-room, leb-le}
+use borrow.Author.Tests.{leb-true}
+use Rattle.likely.proofs.Lookups.{no-room}
 use borrow.Author.Needs.{needs}
 use Rattle.likely.proofs.rows.find.Statement.{statement}
 use Rattle.likely.proofs.rows.find.Tie as tie
@@ -8,7 +9,7 @@ has-room-requires : tie.Need-has-room-requires
 has-room-requires c κs = search needs
 
 find-key-requires : tie.Need-find-key-requires
-find-key-requires c κs = leb-le _ _ (sym (c .before .before .has-room .ensures) ∙ c .before .if1 .taken)
+find-key-requires c κs = leb-true _ _ (sym (c .before .before .has-room .ensures) ∙ c .before .if1 .taken)
 
 returns : tie.Need-returns
 returns c = ((λ q. c .find-key .ensures .0 (q .indexed)), (λ q. c .find-key .ensures .1 (q .indexed)))
