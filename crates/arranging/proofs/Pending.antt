@@ -32,11 +32,6 @@ pub length-led : (t : Tag) (ts : List Tag) → length (led (t ∷ ts)) ≡ 1 + l
 unfolding led
 length-led t ts = let e = length-append t (led ts) in omega arith
 
-pub flat-append : (x y : List (List Tag)) → flat (x ++ y) ≡ flat x ++ flat y
-unfolding flat
-flat-append [] y = refl
-flat-append (g ∷ x) y = ap (_++_ g) (flat-append x y) ∙ sym (append-assoc g (flat x) (flat y))
-
 -- the suffixes that begin with a head, and the group of each
 unfoldable pub tails : (Tag → Bool) → List Tag → List (List Tag)
 tails p [] = []

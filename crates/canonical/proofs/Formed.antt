@@ -21,7 +21,7 @@ use Rattle.standard.proofs.Faults.{Variants}
 use Rattle.standard.proofs.Closed.{canon-printable}
 use Rattle.standard.proofs.Table.{shaped-tables}
 use Rattle.subtag.specs.Bytes.{tidyByte}
-use Rattle.subtag.proofs.Stores.{wrote-two, mapped}
+use Rattle.subtag.proofs.Stores.{wrote-two, mapped, all-from}
 use Rattle.reader.specs.Cuts.{cutsOf}
 use Rattle.reader.specs.Parts.{partsOf}
 use Rattle.canonical.specs.declared.three.Ends.{Ends}
@@ -33,7 +33,6 @@ use Rattle.canonical.specs.Form.{formOf, hyphens, accepted}
 use Rattle.arranging.proofs.Walk.{section-bytes}
 use Rattle.canonical.proofs.Print.{print-led, arranged}
 use Rattle.canonical.proofs.Again.{AllLow}
-use Rattle.canonical.proofs.Keyed.{rest-of}
 use Rattle.canonical.proofs.Cuts.{parts-led, part-led, cut-size, parts-at, accepted as accepted-read}
 use Rattle.canonical.proofs.Ready.{raw, Ready, ready}
 use Rattle.canonical.proofs.Front.{reads}
@@ -87,7 +86,7 @@ lent-at x f region variants extensions a b c =
       extensions-are = p .extensions .tags;
       extensions-plain = p .extensions .plain;
       ready = ready (identifierOf (split x)) r (p .extensions .plain);
-      private-is = ap (map tidyByte) (rest-of x ((cutsOf (split x)) .extensions)) ∙ section-bytes (drop ((cutsOf (split x)) .extensions) x) (p .extensions .rest-begins) ∙ ap led (p .extensions .rest-tags);
+      private-is = ap (map tidyByte) (all-from ((cutsOf (split x)) .extensions) x) ∙ section-bytes (drop ((cutsOf (split x)) .extensions) x) (p .extensions .rest-begins) ∙ ap led (p .extensions .rest-tags);
     })
 
 pub lent : (x : List ℕ) → faultOf x ≡ none → (q : ReaderParts) → q ≡ partsOf (split x) → Lent x (identifierOf (split x)) (q .region) (q .variants) (q .extensions)
@@ -181,7 +180,7 @@ module _ (A x : List ℕ) (t : check false false A [] [] ≡ none) (f : faultOf 
     pub sizes : (n : ℕ) → n ≡ e .region + length (led (canonicalVariants T (tagsOf vBytes))) → n + length eBytes + length pBytes ≤ 476
     sizes n h =
         let v = canonical-fits A t vBytes (L .variants-begin) (variants-ready .2) (variants-ready .3) in
-        omega (arith, three-small e k, L .variants-size, L .extensions-size, L .low, L .middle, L .high, L .short, ap length (rest-of x (q .extensions)), length-drop (q .extensions) x)
+        omega (arith, three-small e k, L .variants-size, L .extensions-size, L .low, L .middle, L .high, L .short, ap length (all-from (q .extensions) x), length-drop (q .extensions) x)
 
     pub extensions-ready : Led eBytes × Plain (tagsOf eBytes) × Each Arrangeable ((grouped (isHead 1) (tagsOf eBytes)) .groups)
     extensions-ready = (L .extensions-begin, rw (L .extensions-are) (L .extensions-plain), rw (L .extensions-are) (L .ready .each))

@@ -12,7 +12,7 @@ use Rattle.standard.specs.Reading.{optional}
 use Rattle.standard.specs.Table.{lookup, rows, located}
 use Rattle.table.specs.Lines.{valueOf}
 use Rattle.table.proofs.Lines.{lookup-located}
-use Rattle.subtag.proofs.Stores.{sets-append}
+use Rattle.subtag.proofs.Stores.{sets-append, front}
 use Rattle.arranging.specs.Section.{led}
 use Rattle.canonical.specs.Alias.{replacedBy, aliasedPart}
 
@@ -25,13 +25,6 @@ module _ (A key : List ℕ) (t : Tag) where
   pub no-row : (located A key) .found ≡ false → t ≡ replacedBy (lookup (rows A) key) t
   unfolding replacedBy
   no-row e = sym (ap (λ (o : Option (List ℕ)). replacedBy o t) (lookup-located A key) ∙ ap (λ (b : Bool). replacedBy (cond b (some (valueOf A (located A key))) none) t) e)
-
-pub rest-of : (x : List ℕ) (n : ℕ) → take (length x - n) (drop n x) ≡ drop n x
-rest-of x n = take-all (length x - n) (drop n x) (simp length-drop (omega arith))
-
--- what stands at the front of a buffer
-pub front : (l x : List ℕ) (n : ℕ) → n ≡ length x → length x ≤ length l → take n (sets l 0 x) ≡ x
-front l x n e h = ap (take n) (sets-eq x l 0 (omega arith)) ∙ take-at x (drop (0 + length x) l) n (sym e)
 
 pub record Keyed (name t k : List ℕ) (n e : ℕ) : Type 0 where
   pub fits : e ≤ length k

@@ -120,10 +120,6 @@ pub field-length : (x : List ℕ) (mark : ℕ) → length (field x mark) ≡ len
 unfolding field
 field-length x mark = length-append x (mark ∷ [])
 
--- all bytes from an index on
-pub from-rest : (s : Bytes) (from : ℕ) → take (length s - from) (drop from s) ≡ drop from s
-from-rest s from = take-all (length s - from) (drop from s) (omega (arith, length-drop from s))
-
 pub number-length : (n mark : ℕ) → length (field (decimal n) mark) ≤ 21
 number-length n mark = omega (arith, field-length (decimal n) mark, decimal-length n)
 
@@ -144,6 +140,3 @@ table-written o o₁ o₂ o₃ o₄ p q r e number table place a b c d =
     let w = wrote-two o₂ o₃ o₄ q r e (field (decimal table) 9) (field (decimal place) 10) t refl (c .0) (c .1) (d .0) (d .1) in
     let v = wrote-two o₁ o₂ o₄ p q e (field (decimal number) 9) t (field (decimal number) 9 ++ t) refl (b .0) (b .1) (w .0) (w .1) in
     wrote-two o o₁ o₄ 0 p e (field (116 ∷ 97 ∷ 98 ∷ 108 ∷ 101 ∷ []) 9) (field (decimal number) 9 ++ t) _ refl (a .0) (a .1) (v .0) (v .1)
-
-pub taken : (o y : Bytes) (n : ℕ) → n ≡ length y → length y ≤ length o → take n (sets o 0 y) ≡ y
-taken o y n e h = rw e (written o y h)

@@ -10,6 +10,7 @@ use lib.ListN.{getD, length, set, length-set}
 use lib.Seq.{getD-set-same, getD-set-other, sets, length-sets}
 use Rattle.standard.specs.Tag.{Tag}
 use Rattle.standard.specs.Delivery.{Bytes}
+use Rattle.subtag.proofs.Stores.{sets-behind}
 use Rattle.ledger.specs.Places.{bytesAt, atMost31, textAt, Moved, KeyMore, CountsMore}
 use Rattle.ledger.proofs.Moves.{short, long}
 
@@ -44,10 +45,6 @@ sets-under : (xs l : Bytes) (k j : ℕ) → j < k → getD (sets l k xs) j 0 ≡
 sets-under [] l k j h = refl
 sets-under (x ∷ xs) l k j h = sets-under xs (set l k x) (suc k) j (omega arith) ∙ getD-set-other l k j x 0 (λ (e : j ≡ k). omega arith)
 
-sets-over : (xs l : Bytes) (k j : ℕ) → k + length xs ≤ j → getD (sets l k xs) j 0 ≡ getD l j 0
-sets-over [] l k j h = refl
-sets-over (x ∷ xs) l k j h = sets-over xs (set l k x) (suc k) j (omega arith) ∙ getD-set-other l k j x 0 (λ (e : j ≡ k). omega arith)
-
 sets-at : (xs l : Bytes) (k : ℕ) → k + length xs ≤ length l → bytesAt (sets l k xs) k (length xs) ≡ xs
 unfolding bytesAt
 sets-at [] l k h = refl
@@ -67,7 +64,7 @@ module _ (a b : Bytes) (n at : ℕ) (k : Tag) (h : at ≤ n) (l : n < 512) (s : 
   under j q = sets-under k c (32 * at + 1) j (omega arith) ∙ getD-set-other b (32 * at) j (length k) 0 (λ (e : j ≡ 32 * at). omega arith)
 
   over : (j : ℕ) → 32 * at + 32 ≤ j → getD d j 0 ≡ getD b j 0
-  over j q = sets-over k c (32 * at + 1) j (omega arith) ∙ getD-set-other b (32 * at) j (length k) 0 (λ (e : j ≡ 32 * at). omega arith)
+  over j q = sets-behind c (32 * at + 1) k j (omega arith) ∙ getD-set-other b (32 * at) j (length k) 0 (λ (e : j ≡ 32 * at). omega arith)
 
   there : textAt d at ≡ k
   unfolding textAt

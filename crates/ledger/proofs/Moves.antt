@@ -10,11 +10,10 @@ use lib.Seq.{getD-set-same, getD-set-other}
 use borrow.Author.Tests.{le-leb, lt-leb, leb-true, leb-false}
 use Rattle.standard.specs.Tag.{Tag, order}
 use Rattle.standard.specs.Delivery.{Bytes}
-use Rattle.standard.proofs.Selection.{isLt}
 use Rattle.subtag.specs.declared.Order.{Order}
 use Rattle.subtag.specs.Subtags.{orderOf}
 use Rattle.ledger.specs.Entries.{placeIn}
-use Rattle.ledger.specs.Places.{atMost31, textAt, entriesFrom, Moving, Moved}
+use Rattle.ledger.specs.Places.{isLt, atMost31, textAt, entriesFrom, Moving, Moved}
 use Rattle.ledger.specs.Up.{Up}
 use Rattle.ledger.proofs.Places.{key-part, place-within, place-low, place-high}
 

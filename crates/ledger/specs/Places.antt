@@ -1,14 +1,20 @@
 -- Where entries stand in two arrays: each key in 32 bytes, its length first; marks and deliveries side by side.
 -- Assumes nothing.
 use mathlib.Core.Path.{_≡_}
-use mathlib.Core.Bool.{cond}
+use mathlib.Core.Bool.{Bool, true, false, cond}
 use mathlib.Core.List.{List, [], _∷_}
-use Prim.Native.Nat.{ℕ, zero, suc, _+_, _*_, _≤_, _<_}
+use Prim.Native.Nat.{ℕ, zero, suc, Ordering, Ordering·lt, Ordering·eq, Ordering·gt, _+_, _*_, _≤_, _<_}
 use lib.Dec.{leb}
 use lib.ListN.{getD, length}
 use Rattle.standard.specs.Tag.{Tag}
 use Rattle.standard.specs.Delivery.{Bytes}
 use Rattle.ledger.specs.Entries.{Entry}
+
+-- one way of three to compare
+unfoldable pub isLt : Ordering → Bool
+isLt Ordering·lt = true
+isLt Ordering·eq = false
+isLt Ordering·gt = false
 
 -- n bytes from a place on
 unfoldable pub bytesAt : Bytes → ℕ → ℕ → Bytes

@@ -9,10 +9,9 @@ ghost use Prim.Native.Nat.{ℕ, _+_, _*_, _≤_, _<_};
 ghost use lib.ListN.{length, getD};
 ghost use Rattle.standard.specs.Tag.{order};
 ghost use Rattle.standard.specs.Delivery.{Bytes};
-ghost use Rattle.standard.proofs.Selection.{isLt};
 ghost use Rattle.ledger.specs.Entries.{placeIn, hitAt, insertAt, changeAt, fresh, again, markOf};
 ghost use Rattle.billing.specs.Bill.{Usage};
-ghost use Rattle.ledger.specs.Places.{atMost31, textAt, entriesFrom, Moved, KeyMore, CountsMore};
+ghost use Rattle.ledger.specs.Places.{isLt, atMost31, textAt, entriesFrom, Moved, KeyMore, CountsMore};
 ghost use Rattle.ledger.specs.Up.{Up, Few, Sized, Added};
 
 fn size_of(b: u8) -> usize

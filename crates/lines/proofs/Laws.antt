@@ -12,7 +12,7 @@ use lib.Seq.{sets, take-all, take-at, drop-at, drop-cons, length-sets, length-ta
 use borrow.Author.Tests.{eq-eqb, ne-eqb, lt-ltb, le-ltb, eqb-true, eqb-false}
 use Rattle.standard.specs.Tag.{onto}
 use Rattle.standard.proofs.Bytes.{bool-cases}
-use Rattle.subtag.proofs.Stores.{sets-append, plain-next}
+use Rattle.subtag.proofs.Stores.{sets-append, plain-next, sets-behind}
 use Rattle.subtag.proofs.Walk.{le-or-lt}
 use Rattle.table.specs.Lines.{lines}
 use Rattle.lines.specs.Squeeze.{Bytes, nextRun, kept, squeezed, runAfter, takenIn, wholeLength, handedOver, unfinished, handed, allLines, together}
@@ -224,9 +224,6 @@ taking-end block piece₀ piece run end n i t h =
     (omega arith, omega arith, rw d at (t .bytes), omega (arith, t .room, t .within), omega arith)
 
 -- A byte behind what was written.
-getD-sets : (l : Bytes) (at : ℕ) (x : Bytes) (j : ℕ) → at + length x ≤ j → getD (sets l at x) j 0 ≡ getD l j 0
-getD-sets l at [] j h = refl
-getD-sets l at (b ∷ x) j h = getD-sets (set l at b) (suc at) x j (omega arith) ∙ getD-set-other l at j b 0 (λ e. omega arith)
 
 pub moved : (piece₀ piece : Bytes) (whole n i : ℕ) → piece ≡ sets piece₀ 0 (take i (drop whole piece₀)) → i < n → whole + n ≤ length piece₀
     → set piece i (getD piece (whole + i) 0) ≡ sets piece₀ 0 (take (i + 1) (drop whole piece₀))
@@ -235,4 +232,4 @@ moved piece₀ piece whole n i e h k =
     let t = length-take-le i (drop whole piece₀) (omega arith) in
     let z : i ≡ 0 + i = omega arith in
     ap (λ (k : ℕ). set piece k (getD piece (whole + i) 0)) z ∙ plain-next piece₀ piece 0 (drop whole piece₀) i (getD piece (whole + i) 0) e
-    (rw e (getD-sets piece₀ 0 (take i (drop whole piece₀)) (whole + i) (omega arith) ∙ sym (getD-drop whole piece₀ i 0))) (omega arith)
+    (rw e (sets-behind piece₀ 0 (take i (drop whole piece₀)) (whole + i) (omega arith) ∙ sym (getD-drop whole piece₀ i 0))) (omega arith)

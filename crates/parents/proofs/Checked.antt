@@ -2,16 +2,15 @@
 use mathlib.Core.Path.{_≡_, refl, _∙_}
 use mathlib.Core.Bool.{Bool, true, false}
 use mathlib.Core.List.{[]}
-use mathlib.Core.Option.{none, Option·some-ne-none}
-use Prim.Native.Nat.{ℕ, _≤_}
-use borrow.Author.Tests.{leb-true}
-use lib.Dec.{leb}
+use mathlib.Core.Option.{none}
+use Prim.Native.Nat.{_≤_}
 use lib.ListN.{length}
 use Rattle.standard.specs.Delivery.{Bytes, given}
-use Rattle.standard.specs.Reading.{fault, read}
-use Rattle.standard.specs.Table.{tooBig, inTable, tablesOf, check}
+use Rattle.standard.specs.Reading.{read}
+use Rattle.standard.specs.Table.{tooBig, tablesOf, check}
 use Rattle.standard.specs.Make.{chainFrom, listMade}
-use Rattle.standard.proofs.Table.{firstTable-none}
+use Rattle.standard.proofs.Table.{firstTable-none, inTable-none}
+use Rattle.standard.proofs.Bounds.{big-none}
 use Rattle.standard.proofs.Whole.{narrow-parents}
 use Rattle.verdict.proofs.Ordered.{check-sorted}
 use Rattle.canonical.specs.Answer.{answerOf, refusedAnswer}
@@ -45,18 +44,9 @@ unfolding answerBy givenAnswered
 answer-given (Refused c) out = refused-answer c out
 answer-given (Lines l) out = listed-given l out
 
--- a table that passes is not too long
-not-big : (n : ℕ) (x : Bytes) → inTable true n (tooBig x) ≡ none → length x ≤ 32768
-unfolding inTable tooBig
-not-big n x e = go (leb (length x) 32768) refl e
-  where
-    go : (b : Bool) → leb (length x) 32768 ≡ b → inTable true n (elim b [ true ↦ none | false ↦ fault 11 0 ]) ≡ none → length x ≤ 32768
-    go true f q = leb-true _ _ f
-    go false f q = absurd (Option·some-ne-none _ q)
-
 parents-small : (A P : Bytes) → check false true A [] P ≡ none → length P ≤ 32768
 unfolding check
-parents-small A P e = not-big 3 P (firstTable-none _ _ (firstTable-none _ _ (firstTable-none _ _ e .1) .1) .0)
+parents-small A P e = big-none P (inTable-none 3 (tooBig P) (firstTable-none _ _ (firstTable-none _ _ (firstTable-none _ _ e .1) .1) .0))
 
 -- tables that pass are as the inner operation asks
 pub tested-chain : (A P : Bytes) → check false true A [] P ≡ none → TestedChain A P

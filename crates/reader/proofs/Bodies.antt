@@ -30,10 +30,6 @@ pub single-not-x : (t : Tag) → isSingleton t ≡ false → isX t ≡ false
 unfolding isX isSingleton oneSize sizeOf
 single-not-x t e = bool-cases (same t xTag) (λ f. clash {b = true} refl (rw (same-eq t xTag f) at e)) (λ f. f)
 
-pub x-single : (t : Tag) → isX t ≡ true → isSingleton t ≡ true
-unfolding isX isSingleton oneSize sizeOf
-x-single t e = rw (same-eq t xTag e)
-
 pub single-length : (t : Tag) → isSingleton t ≡ true → length t ≡ 1
 unfolding isSingleton oneSize sizeOf
 single-length [] e = clash {b = true} refl (sym e)
@@ -131,10 +127,6 @@ module _ (t : Tag) (b : List Tag) where
 -- What the standard says of the extensions that begin at `at`, after the singletons seen.
 unfoldable pub behind : List Tag → ℕ → List Tag → Option Fault
 behind seen at ts = firstOf (groupsFault extensionFault seen at (heads ts)) (privateFault (at + parts (flat (heads ts))) (from isX ts))
-
-pub behind-nil : (seen : List Tag) (at : ℕ) → behind seen at [] ≡ none
-unfolding behind heads upTo grouped from groupsFault firstOf privateFault
-behind-nil seen at = refl
 
 pub behind-more : (seen : List Tag) (at : ℕ) (t : Tag) (ts : List Tag) → isSingleton t ≡ false → behind seen at (t ∷ ts) ≡ behind seen at ts
 unfolding behind

@@ -21,7 +21,7 @@ use Rattle.subtag.proofs.Bytes.{under}
 use Rattle.rows.specs.Shapes.{allowed, isScript, isRegion, between, run, languageLen, scriptLen, regionLen, FrontAt, ThreeAt}
 use Rattle.rows.specs.declared.three.Front.{Front as Read}
 use Rattle.rows.specs.declared.subtags.Bytes.the-variants.{Small, Capital, Digit}
-use Rattle.rows.proofs.Pieces.{all-from}
+use Rattle.subtag.proofs.Stores.{all-from}
 use Rattle.rows.proofs.Tags.{both-ways, language-short, language-four, language-long, language-letters, script-is, script-length, region-sizes, region-two, region-three, every-both, not-capital, digit-low}
 use Rattle.rows.proofs.Threes.{ThreeOk, three-ok, three-text, print-is-three, parse-print}
 

@@ -116,7 +116,3 @@ pub pieces-joined : (t : Tag) (ts : List Tag) → Free 45 t → All (Free 45) ts
 unfolding joined All
 pieces-joined t [] h k = pieces-alone 45 t h
 pieces-joined t (u ∷ ts) h k = pieces-more 45 t (joined (u ∷ ts)) h ∙ ap (_∷_ t) (pieces-joined u ts (k .0) (k .1))
-
--- all that is left from a on, as the code lends it
-pub all-from : (a : ℕ) (s : List ℕ) → take (length s - a) (drop a s) ≡ drop a s
-all-from a s = take-all (length s - a) (drop a s) (simp length-drop (omega arith))

@@ -325,9 +325,6 @@ module _ (t : Tag) where
       (λ f. let h = region-off f in ⊎-elim (λ g. let z = size-length t two (g .0) (omega arith) in absurd (omega arith)) (λ g. digits t (g .1)) (h .0))
 
   -- Variants.
-  pub word-every : every (allowed Word) t ≡ isWord t
-  unfolding allowed isWord
-  word-every = refl
 
   variant-by : (k : Kind) → kindOf t ≡ k → ofKind aVariant k ≡ false → false ≡ isVariantTag t
   unfolding isVariantTag

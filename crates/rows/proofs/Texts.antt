@@ -21,6 +21,7 @@ use Rattle.standard.proofs.Tags.{All}
 use Rattle.standard.proofs.Bytes.{bool-cases, clash, and-true}
 use Rattle.subtag.proofs.Bytes.{small-in, capital-in, digit-in}
 use Rattle.table.specs.Lines.{endOf, starts}
+use Rattle.subtag.proofs.Stores.{all-from}
 use Rattle.rows.specs.declared.three.Front.{Front}
 use Rattle.rows.specs.declared.pairs.Pair.{Pair}
 use Rattle.rows.specs.declared.pairs.Line.{Line}
@@ -32,7 +33,7 @@ use Rattle.rows.specs.declared.Table.the-variants.{Aliases, Likely, Pare
 use Rattle.rows.specs.Shapes.{isScript, isRegion, between, others, noMore, FrontAt, ThreeAt}
 use Rattle.rows.specs.Rows.{isKnown, knownParts, languageName, kindNamed, languageAlias, shapeBy, AliasAt, PairIn, PairAt, LineAt, shapeOf, keyEnd, secondTab}
 use Rattle.rows.proofs.Tags.{both-ways, language-every, script-every, region-every, variant-every}
-use Rattle.rows.proofs.Pieces.{Free, pieces-more, pieces-alone, pieces-first, others-at, others-none, more-some, all-from}
+use Rattle.rows.proofs.Pieces.{Free, pieces-more, pieces-alone, pieces-first, others-at, others-none, more-some}
 use Rattle.rows.proofs.Threes.{three-ok, three-text}
 use Rattle.rows.proofs.Fronts.{led, printed-led}
 use Rattle.rows.proofs.Sorted.{every-append}

@@ -235,7 +235,7 @@ unfolding firstTable AllNamed
 first-named none b h k = k refl
 first-named (some f) b h k = h
 
-big-none : (x : List ℕ) → tooBig x ≡ none → length x ≤ 32768
+pub big-none : (x : List ℕ) → tooBig x ≡ none → length x ≤ 32768
 unfolding tooBig
 big-none x e = go (leb (length x) 32768) refl e
   where

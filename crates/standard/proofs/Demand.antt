@@ -91,10 +91,6 @@ module _ (T : Tables) (g : Good T) (s : ShapedTables T) where
         minimal = rw (d .back, d .reads, t .minimised);
       }
 
-  -- Any list of calls.
-  pub demand-calls : (x : Bytes) (cs : List Call) (out : Bytes) → AsAtFirst (make T) x cs out
-  demand-calls x cs out = calls (make T) lasting x cs out
-
   -- One minimised form exactly where one maximised form.
   pub demand-forms : (x y m n q r : Bytes) → make T maximise x ≡ form m → make T maximise y ≡ form n → make T minimise x ≡ form q → make T minimise y ≡ form r
       → (q ≡ r) ↔ (m ≡ n)

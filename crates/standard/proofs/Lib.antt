@@ -19,8 +19,6 @@ pub mod Lines
 pub mod Table
 pub mod Listing
 pub mod Theorem
-pub mod Forward
-pub mod Selection
 pub mod Cases
 pub mod Whole
 pub mod Bounds

@@ -159,18 +159,3 @@ module _ (T : Tables) (g : Good T) where
       let d = minimised-done i n e in
       let h = maximised-maximal i (d .0) (d .1) in
       rw (d .2) at (settled-by i (shrunk (d .0)) (shrunk-canonical (d .0) h) (shrunk-maximised (d .0) h ∙ sym (d .1)))
-
-  -- One minimised form exactly where there is one maximised form.
-  pub one-form : (i j m n : Identifier) → maximised T i ≡ done m → maximised T j ≡ done n → (m ≡ n) ↔ (minimised T i ≡ minimised T j)
-  unfolding minimised
-  one-form i j m n e f = (forth, back)
-    where
-      forth : m ≡ n → minimised T i ≡ minimised T j
-      forth p = let q : maximised T i ≡ maximised T j = cc in rw q
-
-      back : minimised T i ≡ minimised T j → m ≡ n
-      back p =
-          let a = shrunk-maximised m (maximised-maximal i m e) in
-          let b = shrunk-maximised n (maximised-maximal j n f) in
-          let c : shrunk m ≡ shrunk n = done-eq (sym (minimised-of m i e) ∙ (p ∙ minimised-of n j f)) in
-          done-eq (sym a ∙ (rw c b))

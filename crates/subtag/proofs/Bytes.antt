@@ -31,11 +31,6 @@ pub record Within (lo hi b : ℕ) : Type 0 where
 range : (lo hi b : ℕ) → (leb lo b && leb b hi) ≡ true → Within lo hi b
 range lo hi b e = let h = and-true (leb lo b) (leb b hi) e in record { low = leb-true lo b (h .0); high = leb-true b hi (h .1) }
 
-pub sep : (b : ℕ) → (b ≡ 45) ⊎ (b ≡ 95) → separator b ≡ true
-unfolding separator
-sep b (inl e) = rw e
-sep b (inr e) = rw e
-
 pub no-sep : (b : ℕ) → (b ≡ 45 → ⊥) → (b ≡ 95 → ⊥) → separator b ≡ false
 unfolding separator
 no-sep b f g = simp (ne-eqb b 45 f, ne-eqb b 95 g)

@@ -82,11 +82,6 @@ pub same-key : (x y : Tag) → PlainTag x → PlainTag y → same x y ≡ eqb (k
 unfolding same
 same-key x y a b = ap isEq (order-key x y a b)
 
--- the bytes of a number
-pub first-of-key : (b : ℕ) (t : Tag) → PlainBytes t → Prim.Native.Nat._/_ (keyOf (b ∷ t)) 72057594037927936 ≡ b
-unfolding keyOf packed
-first-of-key b t h = let p = packed-lt 7 t h in omega arith
-
 -- Words, that is small letters and digits, are plain; and so is each subtag of an input of clean bytes.
 pub word-plain : (t : Tag) → every word t ≡ true → PlainBytes t
 unfolding every word PlainBytes

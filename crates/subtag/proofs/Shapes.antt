@@ -103,10 +103,6 @@ pub kind-from : (t : Tag) → kindFrom (subtagOf t) ≡ kindOf t
 unfolding kindFrom subtagOf kindOf
 kind-from t = rw (size-from t, every-count small t, every-count digit t, digit-first t)
 
-two-counts : (a b : ℕ) (p : ℕ → Bool) → count p (a ∷ b ∷ []) ≡ cond (p a) 1 0 + (cond (p b) 1 0 + 0)
-unfolding count
-two-counts a b p = refl
-
 pub keyword-from : (t : Tag) → keywordFrom (subtagOf t) ≡ isKeywordKey t
 unfolding keywordFrom subtagOf isKeywordKey firstByte count
 keyword-from [] = refl

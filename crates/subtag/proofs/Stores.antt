@@ -1,12 +1,12 @@
 -- Laws of runs of stores. Assumes nothing.
 use mathlib.Core.Path.{_≡_, refl, sym, ap, ap₂, _∙_}
 use mathlib.Core.List.{List, [], _∷_, _++_, map}
-use Prim.Native.Nat.{ℕ, suc, _+_, _≤_, _<_}
+use Prim.Native.Nat.{ℕ, suc, _+_, _-_, _≤_, _<_}
 use native.Mathlib.Nat.{add-zero}
 use native.Mathlib.Numerals.{add-one}
 use native.Mathlib.Omega.{arith}
-use lib.ListN.{length, drop, getD, take, set, length-map, length-append}
-use lib.Seq.{sets, sets-eq, take-at, take-suc, take-all, length-take-le}
+use lib.ListN.{length, drop, getD, take, set, length-map, length-append, length-drop}
+use lib.Seq.{sets, sets-eq, take-at, take-suc, take-all, length-take-le, getD-set-other}
 
 pub sets-append : (l : List ℕ) (at : ℕ) (x y : List ℕ) → sets l at (x ++ y) ≡ sets (sets l at x) (at + length x) y
 sets-append l at [] y = rw add-zero
@@ -55,3 +55,16 @@ plain-all l at x i h = ap (sets l at) (take-all i x h)
 -- what was written at the front
 pub written : (l x : List ℕ) → length x ≤ length l → take (length x) (sets l 0 x) ≡ x
 written l x h = ap (take (length x)) (sets-eq x l 0 (let z : 0 + length x ≡ length x = omega arith in omega arith)) ∙ take-at x (drop (0 + length x) l) (length x) refl
+
+-- all that is left from a on, as code lends it
+pub all-from : (a : ℕ) (s : List ℕ) → take (length s - a) (drop a s) ≡ drop a s
+all-from a s = take-all (length s - a) (drop a s) (simp length-drop (omega arith))
+
+-- what was written at the front
+pub front : (l x : List ℕ) (n : ℕ) → n ≡ length x → length x ≤ length l → take n (sets l 0 x) ≡ x
+front l x n e h = rw e (written l x h)
+
+-- what stands behind a run of stores stays
+pub sets-behind : (l : List ℕ) (at : ℕ) (x : List ℕ) (j : ℕ) → at + length x ≤ j → getD (sets l at x) j 0 ≡ getD l j 0
+sets-behind l at [] j h = refl
+sets-behind l at (b ∷ x) j h = sets-behind (set l at b) (suc at) x j (omega arith) ∙ getD-set-other l at j b 0 (λ e. omega arith)

@@ -154,5 +154,3 @@ module _ (s : List ℕ) (at len : ℕ) (e : len ≡ length (label (split (drop a
   walk-end h = split-end (drop at s) (simp length-drop (omega arith))
 
   -- whether or not anything follows, the first subtag is the one that was judged
-  pub walk-any : (ts : List Tag) × (split (drop at s) ≡ label (split (drop at s)) ∷ ts)
-  walk-any = ⊎-elim (λ h. (_, walk-end h)) (λ h. (_, walk-more h)) (le-or-lt (length s - at) len)

@@ -23,7 +23,8 @@ use Rattle.rows.specs.declared.aliases.AliasKind.the-variants.{Language, Script
 use Rattle.rows.specs.Shapes.{isScript, isRegion, between, others, ThreeAt}
 use Rattle.rows.specs.Rows.{languageName, scriptName, regionName, variantName, kindNamed, languageAlias, shapeBy}
 use Rattle.rows.proofs.Tags.{language-long, script-length, region-sizes, variant-long}
-use Rattle.rows.proofs.Pieces.{pieces-first, others-at, others-none, all-from}
+use Rattle.subtag.proofs.Stores.{all-from}
+use Rattle.rows.proofs.Pieces.{pieces-first, others-at, others-none}
 use Rattle.rows.proofs.Threes.{ThreeOk, three-ok, parse-pieces}
 use Rattle.rows.proofs.Judges.{alias-by}
 use Rattle.subtag.proofs.Walk.{le-or-lt}

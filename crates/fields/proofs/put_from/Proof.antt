@@ -1,5 +1,5 @@
 -- `fields::put_from` meets its contract. Assumes nothing.
-use Rattle.fields.proofs.Laws as laws
+use Rattle.subtag.proofs.Stores.{all-from}
 use borrow.Author.Needs.{needs}
 use Rattle.fields.proofs.put_from.Statement.{statement}
 use Rattle.fields.proofs.put_from.Tie as tie
@@ -20,7 +20,7 @@ same-length : tie.Need-same-length
 same-length c = search needs
 
 returns : tie.Need-returns
-returns c = let a = c .before .before .before .before .before .before .before .args in rw (laws.from-rest (a .src .now) (a .from)) at (c .before .before .put .ensures)
+returns c = let a = c .before .before .before .before .before .before .before .args in rw (all-from (a .from) (a .src .now)) at (c .before .before .put .ensures)
 
 pub put-from-spec : {M : Type 1} → statement M
 put-from-spec =

@@ -1,6 +1,6 @@
 -- `fields::table_line` meets its contract. Assumes nothing.
 use native.Mathlib.Omega.{arith}
-use Rattle.fields.proofs.Laws as laws
+use Rattle.subtag.proofs.Stores.{front}
 use mathlib.Core.Path.{ap, _∙_}
 use mathlib.Core.List.{List}
 use Prim.Native.Nat.{ℕ}
@@ -24,7 +24,7 @@ unfolding textIs
 returns c =
     let k = c .before in
     let w = k .put-table in
-    (ap (λ (y : List ℕ). take (w .result) y) (w .ensures .1) ∙ laws.taken (k .before .before .room .result) _ (w .result) (w .ensures .0) (omega (arith, w .ensures .0, w .ensures .2, k .before .before .room .ensures)), w .ensures .2)
+    (ap (λ (y : List ℕ). take (w .result) y) (w .ensures .1) ∙ front (k .before .before .room .result) _ (w .result) (w .ensures .0) (omega (arith, w .ensures .0, w .ensures .2, k .before .before .room .ensures)), w .ensures .2)
 
 pub table-line-spec : {M : Type 1} → statement M
 table-line-spec =

@@ -1,9 +1,9 @@
 -- `ledger::is_below` meets its contract. Assumes nothing.
 use mathlib.Core.Path.{sym, refl, ap, _∙_}
 use native.Mathlib.Omega.{arith}
-use Rattle.standard.proofs.Selection.{isLt}
 use Rattle.subtag.specs.declared.Order.{Order}
 use Rattle.subtag.specs.Subtags.{orderOf}
+use Rattle.ledger.specs.Places.{isLt}
 use Rattle.ledger.proofs.Moves.{below-key}
 use borrow.Author.Needs.{needs}
 use Rattle.ledger.proofs.is_below.Statement.{statement}

@@ -7,6 +7,7 @@ use lib.ListN.{length, take, drop}
 use lib.Seq.{sets}
 use Rattle.standard.specs.Table.{lookup, rows}
 use Rattle.canonical.specs.Alias.{replacedBy}
+use Rattle.subtag.proofs.Stores.{all-from}
 use Rattle.canonical.proofs.Keyed as keys
 use borrow.Author.Needs.{needs}
 use Rattle.canonical.proofs.alias.put_replaced.Statement.{statement}
@@ -30,7 +31,7 @@ not-found : (c : tie.Else1) → let a = c .before .before .before .before .befor
 not-found c =
     let f = c .before in
     let b = f .before .before .before .before .before .before in
-    keys.rest-of (b .args .key .now) (b .args .skip) ∙ keys.no-row _ _ _ (sym (f .lookup-hinted .ensures .1 (b .pre .1)) ∙ c .if1 .left)
+    all-from (b .args .skip) (b .args .key .now) ∙ keys.no-row _ _ _ (sym (f .lookup-hinted .ensures .1 (b .pre .1)) ∙ c .if1 .left)
 
 put-requires : tie.Need-put-requires
 put-requires c κs =

@@ -9,6 +9,7 @@ use Rattle.standard.specs.Reading.{optional}
 use Rattle.standard.specs.Table.{lookup, rows}
 use Rattle.arranging.specs.Section.{led}
 use Rattle.canonical.specs.Alias.{replacedBy}
+use Rattle.subtag.proofs.Stores.{all-from}
 use Rattle.canonical.proofs.Keyed as keys
 use borrow.Author.Needs.{needs}
 use Rattle.canonical.proofs.alias.write_replaced.Statement.{statement}
@@ -36,7 +37,7 @@ not-found : (c : tie.Else1)
 not-found c =
     let f = c .before in
     let b = f .before .before .before .before .before .before in
-    ap bytes (keys.rest-of (b .args .key .now) (b .args .skip) ∙ keys.no-row _ _ _ (sym (f .lookup-hinted .ensures .1 (b .pre .1)) ∙ c .if1 .left))
+    ap bytes (all-from (b .args .skip) (b .args .key .now) ∙ keys.no-row _ _ _ (sym (f .lookup-hinted .ensures .1 (b .pre .1)) ∙ c .if1 .left))
 
 put-led-requires : tie.Need-put-led-requires
 put-led-requires c κs = omega (arith, ap length (found (c .before)))

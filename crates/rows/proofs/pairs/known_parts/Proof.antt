@@ -10,7 +10,7 @@ use lib.Seq.{length-take-le}
 use Rattle.standard.specs.Tag.{same, present}
 use Rattle.standard.specs.Identifier.{zz}
 use Rattle.rows.specs.Shapes.{between}
-use Rattle.rows.proofs.Pieces.{all-from}
+use Rattle.subtag.proofs.Stores.{all-from}
 use Rattle.rows.proofs.Judges.{present-some, present-none, no-script, no-region, is-und, is-zzzz, is-zz}
 use borrow.Author.Needs.{needs}
 use Rattle.rows.proofs.pairs.known_parts.Statement.{statement}

@@ -5,7 +5,7 @@ use mathlib.Core.Bool.{not}
 use mathlib.Core.List.{[]}
 use Prim.Native.Nat.{_+_, _-_}
 use lib.ListN.{length, take, drop}
-use Rattle.rows.proofs.Pieces.{all-from}
+use Rattle.subtag.proofs.Stores.{all-from}
 use Rattle.rows.specs.Rows.{kindNamed}
 use Rattle.verdict.specs.Keys.{isKey}
 use Rattle.verdict.specs.Free.{ownTag}

@@ -5,7 +5,7 @@ use mathlib.Core.List.{List}
 use Prim.Native.Nat.{ℕ, _+_, _-_}
 use lib.ListN.{length, take, drop}
 use Rattle.standard.specs.Table.{parse}
-use Rattle.rows.proofs.Pieces.{all-from}
+use Rattle.subtag.proofs.Stores.{all-from}
 use Rattle.verdict.specs.Free.{freeThree}
 use Rattle.verdict.specs.Walk.{ValueOk}
 use Rattle.verdict.proofs.Clashes.{TwoLine, two-line}
