@@ -5,8 +5,8 @@ use mathlib.Core.List.{List, [], _∷_, _++_, append-nil}
 use mathlib.Core.Option.{Option, none, some}
 use Prim.Native.Nat.{ℕ, _+_, _-_, _≤_, _<_}
 use native.Mathlib.Omega.{arith}
-use lib.ListN.{length, take, drop, set, length-append, length-drop, length-set}
-use lib.Seq.{sets, sets-eq, length-sets, take-at, drop-at, take-all}
+use lib.ListN.{length, take, drop, set, length-append, length-set}
+use lib.Seq.{sets, length-sets, drop-at}
 use Rattle.standard.specs.Tag.{Tag}
 use Rattle.standard.specs.Reading.{optional}
 use Rattle.standard.specs.Table.{lookup, rows, located}

@@ -7,10 +7,10 @@ use Prim.Native.Nat.{ℕ, zero, suc, _+_, _-_, _/_, _%_, _≤_, _<_}
 use native.Mathlib.Omega.{arith}
 use native.Mathlib.Numerals.{add-one}
 use lib.Dec.{eqb}
-use lib.ListN.{length, take, drop, set, length-append, length-drop, length-set}
-use lib.Seq.{sets, take-all, drop-cons, drop-set-lt, getD-set-same}
+use lib.ListN.{length, drop, set, length-append, length-set}
+use lib.Seq.{sets, drop-cons, drop-set-lt, getD-set-same}
 use borrow.Author.Tests.{eq-eqb, ne-eqb}
-use Rattle.subtag.proofs.Stores.{wrote-two, written}
+use Rattle.subtag.proofs.Stores.{wrote-two}
 use Rattle.subtag.proofs.Walk.{le-or-lt}
 use Rattle.fields.specs.Fields.{Bytes, digitsOnto, decimal, field, askedOf, tableText}
 

@@ -8,7 +8,7 @@ use native.Mathlib.Numerals.{add-one}
 use native.Mathlib.Omega.{arith}
 use lib.Dec.{eqb}
 use lib.ListN.{length, take, drop, getD, set, length-append, length-drop, drop-of-length-le}
-use lib.Seq.{sets, take-all, take-at, drop-at, drop-cons, length-sets, length-take-le, getD-drop, getD-set-other}
+use lib.Seq.{sets, take-all, take-at, drop-at, drop-cons, length-sets, length-take-le, getD-drop}
 use borrow.Author.Tests.{eq-eqb, ne-eqb, lt-ltb, le-ltb, eqb-true, eqb-false}
 use Rattle.standard.specs.Tag.{onto}
 use Rattle.standard.proofs.Bytes.{bool-cases}
@@ -223,8 +223,7 @@ taking-end block piece₀ piece run end n i t h =
     let k = t .few in
     (omega arith, omega arith, rw d at (t .bytes), omega (arith, t .room, t .within), omega arith)
 
--- A byte behind what was written.
-
+-- The unfinished line moved to the front, one byte more.
 pub moved : (piece₀ piece : Bytes) (whole n i : ℕ) → piece ≡ sets piece₀ 0 (take i (drop whole piece₀)) → i < n → whole + n ≤ length piece₀
     → set piece i (getD piece (whole + i) 0) ≡ sets piece₀ 0 (take (i + 1) (drop whole piece₀))
 moved piece₀ piece whole n i e h k =

@@ -7,7 +7,7 @@ use Prim.Native.Nat.{ℕ, zero, suc, _+_, _≤_}
 use lib.ListN.{length, take}
 use Rattle.standard.specs.Identifier.{Tables}
 use Rattle.standard.specs.Delivery.{Bytes}
-use Rattle.billing.specs.Bill.{Usage, usage, usages, refusals, none-made, billOf}
+use Rattle.billing.specs.Bill.{Usage, usages, refusals, none-made, billOf}
 use Rattle.ledger.specs.Places.{entriesFrom}
 use Rattle.ledger.specs.Ledger.{entriesOf}
 use Rattle.month.specs.declared.Counts.{Counts}

@@ -7,7 +7,6 @@ ghost use mathlib.Core.List.{[], _∷_, _++_};
 ghost use Prim.Native.Nat.{_+_, _-_, _*_, _≤_, _<_};
 ghost use lib.ListN.{length};
 ghost use lib.Seq.{sets};
-ghost use Rattle.standard.specs.Tag.{same};
 ghost use Rattle.standard.specs.Identifier.{und};
 ghost use Rattle.table.specs.Search.{Sorted};
 ghost use Rattle.parents.specs.Texts.{lastDash, rowText, parentText, chainText};

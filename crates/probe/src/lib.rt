@@ -3,7 +3,6 @@
 ghost use mathlib.Core.Path.{_≡_};
 ghost use mathlib.Core.Bool.{true};
 ghost use Prim.Native.Nat.{_+_, _*_, _%_, _<_};
-ghost use lib.ListN.{length};
 ghost use Rattle.standard.specs.Table.{located, check as checkOf};
 ghost use Rattle.table.specs.Lines.{foundIs};
 ghost use Rattle.table.specs.Search.{Sorted};

@@ -10,7 +10,7 @@ use Rattle.standard.specs.Tag.{Tag, same, label}
 use Rattle.standard.specs.Grammar.{Kind, aScript, aRegion, aVariant, aNone, sizeOf, kind, kindOf, variantKind, isVariant, isLanguage, isSingleton, isTwo, isFieldKey, uTag, tTag, grouped, flat, only}
 use Rattle.standard.specs.Identifier.{part, parts}
 use Rattle.standard.specs.Reading as reading
-use Rattle.standard.specs.Reading.{Fault, fault, accept, wrongKeyword, isX, upTo, from, root, ofKind, find, afterFirst, identifierOf, grammarFault}
+use Rattle.standard.specs.Reading.{Fault, accept, wrongKeyword, isX, upTo, from, root, ofKind, find, afterFirst, identifierOf, grammarFault}
 use Rattle.standard.specs.Report.{privateCount}
 use Rattle.standard.proofs.Bytes.{clash, bool-cases}
 use Rattle.standard.proofs.Shapes.{known}

@@ -10,8 +10,8 @@ use lib.ListN.{length, take, drop, length-append}
 use lib.Seq.{take-append-seam, drop-append-seam, drop-drop}
 use borrow.Author.Tests.{le-leb, lt-leb}
 use Rattle.standard.specs.Tag.{Tag}
-use Rattle.standard.specs.Identifier.{Three as Subtags, three}
-use Rattle.standard.specs.Table.{parse, printThree, isThree}
+use Rattle.standard.specs.Identifier.{three}
+use Rattle.standard.specs.Table.{parse, isThree}
 use Rattle.standard.proofs.Tags.{All}
 use Rattle.table.specs.Lines.{endOf}
 use Rattle.rows.specs.Shapes.{isScript, isRegion, between, scriptEnd, ThreeAt}

@@ -12,7 +12,7 @@ use borrow.Author.Tests.{le-leb, leb-true, eqb-true, eqb-false}
 use Rattle.standard.specs.Tag.{Tag, order, same, onto}
 use Rattle.standard.specs.Grammar.{small, capital, digit, every, isLanguage}
 use Rattle.standard.specs.Identifier.{und}
-use Rattle.standard.specs.Reading.{fault, joined}
+use Rattle.standard.specs.Reading.{joined}
 use Rattle.standard.specs.Table.{pieces, rows, keyOf, above, rowsFault, isThree, parse, isUnd, isVariantTag, aliasShape, likelyShape, parentShape}
 use Rattle.standard.proofs.Tags.{All, same-eq}
 use Rattle.standard.proofs.Table.{Pass}

@@ -1,7 +1,7 @@
 -- Subtags in canonical case, by their bytes.
 -- Assumes nothing.
 use mathlib.Core.Path.{_≡_, refl, sym, ap, ap₂, _∙_}
-use mathlib.Core.Bool.{Bool, true, false, cond, not, _&&_, _||_}
+use mathlib.Core.Bool.{Bool, true, false, cond, _&&_, _||_}
 use mathlib.Core.List.{List, [], _∷_, map, head-eq-of-cons-eq, tail-eq-of-cons-eq}
 use mathlib.Core.Logic.{_⊎_, inl, inr, ⊎-elim}
 use Rattle.subtag.proofs.Walk.{le-or-lt}
@@ -21,7 +21,6 @@ use Rattle.subtag.proofs.Bytes.{capital-in, small-in, digit-in, inside, under, 
 use Rattle.subtag.specs.Subtags.{subtagOf, firstByte}
 use Rattle.subtag.proofs.Shapes as shapes
 use Rattle.subtag.proofs.Shapes.{language-from, kind-from, digit-first, every-count, size-from, size-empty, size-one, size-two, size-three, size-four, size-several, size-long}
-use Rattle.rows.specs.declared.subtags.Bytes.{Bytes}
 use Rattle.rows.specs.declared.subtags.Bytes.the-variants.{Word}
 use Rattle.rows.specs.Shapes.{allowed, isScript, isRegion}
 
@@ -325,7 +324,6 @@ module _ (t : Tag) where
       (λ f. let h = region-off f in ⊎-elim (λ g. let z = size-length t two (g .0) (omega arith) in absurd (omega arith)) (λ g. digits t (g .1)) (h .0))
 
   -- Variants.
-
   variant-by : (k : Kind) → kindOf t ≡ k → ofKind aVariant k ≡ false → false ≡ isVariantTag t
   unfolding isVariantTag
   variant-by k e f = rw (e, f)

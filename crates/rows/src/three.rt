@@ -5,7 +5,6 @@ ghost use mathlib.Core.Path.{_≡_};
 ghost use mathlib.Core.Bool.{true, _&&_};
 ghost use Prim.Native.Nat.{_+_, _≤_};
 ghost use lib.Dec.{eqb};
-ghost use lib.ListN.{length};
 ghost use Rattle.standard.specs.Table.{isThree};
 ghost use Rattle.rows.specs.Shapes.{languageLen, scriptLen, regionLen, scriptEnd, FrontAt, ThreeAt};
 

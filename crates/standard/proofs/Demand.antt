@@ -3,7 +3,6 @@
 use mathlib.Core.Path.{_≡_, refl, sym, ap, _∙_, subst}
 use mathlib.Core.Bool.{true}
 use mathlib.Core.Logic.{_↔_}
-use mathlib.Core.List.{List}
 use Prim.Native.Nat.{ℕ, _≤_}
 use native.Mathlib.Omega.{arith}
 use lib.Dec.{leb}
@@ -12,11 +11,11 @@ use Rattle.standard.specs.Tag.{label}
 use Rattle.standard.specs.Identifier.{Identifier, Tables, canonicalForm, withoutUnknown, minimalThree, size, subtags, Answer, done, refused, withThree, then, canonical, maximised, minimised, Good}
 use Rattle.standard.specs.Reading.{Read, good, bad, read, print, split}
 use Rattle.standard.specs.Delivery.{Bytes, result, form}
-use Rattle.standard.specs.Calls.{Operation, canonicalise, maximise, minimise, Call, AsAtFirst}
+use Rattle.standard.specs.Calls.{Operation, canonicalise, maximise, minimise}
 use Rattle.standard.specs.Make.{operate, made, makeOf, make}
 use Rattle.standard.proofs.Operations.{bounded-done, maximised-form, minimised-done, shrunk, Settled, canonical-settled, maximised-settled, minimised-settled}
 use Rattle.standard.proofs.Numbers.{refusal-not}
-use Rattle.standard.proofs.Calls.{Lasting, calls}
+use Rattle.standard.proofs.Calls.{Lasting}
 use Rattle.standard.proofs.Minimal.{fewest}
 use Rattle.standard.proofs.Round.{Printable, round, split-count, split-label}
 use Rattle.standard.proofs.Sound.{Raw, read-raw}

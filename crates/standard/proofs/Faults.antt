@@ -11,7 +11,7 @@ use lib.ListN.{length}
 use Rattle.standard.specs.Tag.{Tag, andThen, order, same, itself, label}
 use Rattle.standard.specs.Grammar.{Kind, aScript, aRegion, aVariant, aNone, sizeOf, kind, kindOf, variantKind, isVariant}
 use Rattle.standard.specs.Identifier.{parts}
-use Rattle.standard.specs.Reading.{optional, Fault, fault, firstOf, badTag, member, Stage, afterLanguage, afterScript, afterRegion, accept, restFault, alone, groupsFault}
+use Rattle.standard.specs.Reading.{optional, Fault, firstOf, badTag, member, Stage, afterLanguage, afterScript, afterRegion, accept, restFault, alone, groupsFault}
 use Rattle.standard.proofs.Tags.{All, Ascending, order-flip, compare-eq}
 use Rattle.standard.proofs.Groups.{Lacks}
 use Rattle.standard.proofs.Bytes.{clash}

@@ -3,7 +3,7 @@
 use mathlib.Core.Path.{_≡_, refl, ap}
 use mathlib.Core.Bool.{Bool, true, false}
 use mathlib.Core.List.{List, [], _∷_, _++_, map, append-nil}
-use Rattle.standard.specs.Tag.{Tag, order, same, sortBy, itself, label}
+use Rattle.standard.specs.Tag.{Tag, same, sortBy, itself, label}
 use Rattle.standard.specs.Grammar.{isVariant, isTwo, isFieldKey, uTag, tTag, trueTag, withTag, grouped, flat, only, others, dropTrue, arrangeKeywords, arrangePart, arrangeFields, arrangeOne, arrange}
 use Rattle.standard.proofs.Tags.{All, all-map, sort-ascending, sort-fixed, sort-all, settle-twice}
 

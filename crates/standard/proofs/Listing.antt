@@ -14,7 +14,7 @@ use Rattle.standard.specs.Identifier.{Three, und, Tables}
 use Rattle.standard.specs.Reading.{clean, unclean, optional, rest, tags, joined, print}
 use Rattle.standard.specs.Delivery.{Bytes}
 use Rattle.standard.specs.Demand3.{Once, lastLine}
-use Rattle.standard.specs.Chain.{Line, line, isRoot, chain, GoodParents}
+use Rattle.standard.specs.Chain.{Line, isRoot, chain, GoodParents}
 use Rattle.standard.specs.Table.{pieces, rows}
 use Rattle.standard.specs.Make.{identifier, printLine, listing}
 use Rattle.standard.proofs.Tags.{All, all-map, same-eq}

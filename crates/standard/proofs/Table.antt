@@ -6,11 +6,11 @@ use mathlib.Core.Logic.{inr}
 use mathlib.Core.List.{List, [], _∷_, _++_, cons≢nil, append-assoc, head-eq-of-cons-eq, tail-eq-of-cons-eq}
 use mathlib.Core.Option.{Option, none, some, Option·none-ne-some, Option·some-ne-none}
 use Prim.Native.Nat.{ℕ, suc, _+_}
-use lib.Dec.{T, eqb, eqb→eq, eqb-refl}
+use lib.Dec.{eqb, eqb→eq, eqb-refl}
 use lib.ListN.{length}
 use Rattle.standard.specs.Tag.{Tag, order, same, present, replace, onto}
-use Rattle.standard.specs.Grammar.{every, title, upper, Kind, aScript, aRegion, aVariant, kindOf, isLanguage, languageSize, sizeOf}
-use Rattle.standard.specs.Identifier.{Three, three, und, Tables, withoutUnknown, complete, sameThree, Kept, Good}
+use Rattle.standard.specs.Grammar.{title, upper, Kind, aScript, aRegion, aVariant, kindOf, isLanguage, languageSize, sizeOf}
+use Rattle.standard.specs.Identifier.{Three, und, Tables, withoutUnknown, complete, sameThree, Kept, Good}
 use Rattle.standard.specs.Reading.{optional, joined, Fault, ofKind}
 use Rattle.standard.specs.Chain.{line, parentOf, parent, isRoot, reaches, GoodParents}
 use Rattle.standard.specs.Table.{pieces, after, lookup, rows, lower, inCanonicalCase, findInCase, threeOf, parse, printThree, isThree, languageKey, scriptKey, regionKey, variantKey, parsed, tablesOf, isWord, isUnd, isVariantTag, aliasShape, likelyShape, parentShape, isNone, unaliased, aliasFree, likelyFree, parentFree, keyOf, above, rowsFault, clashFault, TableFault, inTable, firstTable, check}

@@ -3,7 +3,7 @@
 use mathlib.Core.Path.{_≡_, refl, sym, ap, _∙_}
 use mathlib.Core.Bool.{Bool, true, false}
 use mathlib.Core.List.{List, [], _∷_}
-use mathlib.Core.Logic.{_⊎_, inl, inr, ⊎-elim}
+use mathlib.Core.Logic.{_⊎_, inl, inr}
 use Prim.Native.Nat.{ℕ, suc, _+_, _-_, _≤_, _<_}
 use native.Mathlib.Numerals.{add-one}
 use native.Mathlib.Omega.{arith}
@@ -152,5 +152,3 @@ module _ (s : List ℕ) (at len : ℕ) (e : len ≡ length (label (split (drop a
 
   pub walk-end : length s - at ≤ len → split (drop at s) ≡ label (split (drop at s)) ∷ []
   walk-end h = split-end (drop at s) (simp length-drop (omega arith))
-
-  -- whether or not anything follows, the first subtag is the one that was judged
