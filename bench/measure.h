@@ -49,13 +49,18 @@ static double now(void) {
     return t.tv_sec * 1e9 + t.tv_nsec;
 }
 
-/* Nanoseconds of a run: the best of measures of about 0.2 s. */
+/* Nanoseconds of a run: the best of measures of about 0.2 s. The clock is read once for 16 runs: a reading takes a good
+ * part of the shortest one. */
 static double best(void (*run)(void)) {
     double least = 1e18;
     for (int m = 0; m < MEASURES; m++) {
         size_t rounds = 0;
         double start = now(), end = start;
-        while (end - start < 2e8) { run(); rounds++; end = now(); }
+        while (end - start < 2e8) {
+            for (int k = 0; k < 16; k++) run();
+            rounds += 16;
+            end = now();
+        }
         if ((end - start) / rounds < least) least = (end - start) / rounds;
     }
     return least;
