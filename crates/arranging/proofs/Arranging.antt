@@ -6,7 +6,7 @@ use Prim.Native.Nat.{ℕ, _+_, _-_, _≤_, _<_}
 use native.Mathlib.Omega.{arith}
 use lib.ListN.{length, getD, take, drop, length-append, length-map, length-drop}
 use lib.Seq.{sets, length-sets, take-all, length-take-le}
-use Rattle.standard.specs.Tag.{Tag, same, label}
+use Rattle.standard.specs.Tag.{Tag, same, headTag}
 use Rattle.standard.specs.Grammar.{separator, lowerByte, grouped, flat, uTag, tTag, arrangeKeywords, arrangeFields, arrangeOne, arrange}
 use Rattle.standard.specs.Reading.{split}
 use Rattle.arranging.specs.declared.choice.Head.{Head}
@@ -85,8 +85,8 @@ one-at g c h ts l e p z o n d =
     let s2 : length (led (h ∷ [])) ≡ 2 = length-led h [] ∙ omega (arith, ap length led-none) in
     let w = parted (h ∷ []) ts g 2 l e s2 in
     let k : 1 < length g = omega (arith, w .fits) in
-    let st = step g 0 (length (label (split (drop 1 g)))) (omega arith) l refl in
-    let hd : label (split (drop 1 g)) ≡ h = cc (st .tags) in
+    let st = step g 0 (length (headTag (split (drop 1 g)))) (omega arith) l refl in
+    let hd : headTag (split (drop 1 g)) ≡ h = cc (st .tags) in
     let hc : h ≡ c ∷ [] = first-byte (separator (getD g 1 0)) refl k hd in
     let a : map tidyByte (take 2 g) ≡ led (h ∷ []) = section-bytes (take 2 g) (w .first-begins) ∙ ap led (w .first) in
     let b : map tidyByte (drop 2 g) ≡ led ts = section-bytes (drop 2 g) (w .rest-begins) ∙ ap led (w .rest) in
@@ -111,9 +111,9 @@ one-at g c h ts l e p z o n d =
     led-none : led [] ≡ []
     led-none = led-empty
 
-    first-byte : (b : Bool) → separator (getD g 1 0) ≡ b → 1 < length g → label (split (drop 1 g)) ≡ h → h ≡ c ∷ []
+    first-byte : (b : Bool) → separator (getD g 1 0) ≡ b → 1 < length g → headTag (split (drop 1 g)) ≡ h → h ≡ c ∷ []
     first-byte true i k q = absurd (omega (arith, ap length (sym (at-sep g 1 k i) ∙ q)))
-    first-byte false i k q = one-byte h c (label (split (drop 2 g))) (sym q ∙ at-byte g 1 k i ∙ ap (λ (x : ℕ). x ∷ label (split (drop 2 g))) (sym d)) z
+    first-byte false i k q = one-byte h c (headTag (split (drop 2 g))) (sym q ∙ at-byte g 1 k i ∙ ap (λ (x : ℕ). x ∷ headTag (split (drop 2 g))) (sym d)) z
 
 pub one : (g : List ℕ) (c : ℕ) → Led g → Plain (tagsOf g) → Arrangeable (tagsOf g) → c ≡ lowerByte (getD g 1 0) → One g (take 2 g) (take (length g - 2) (drop 2 g)) c
 unfolding Arrangeable
@@ -158,12 +158,12 @@ extension-size g l p a = go (eqb (lowerByte (getD g 1 0)) 117) refl (eqb (lowerB
         let k = length-map y tidyByte in
         omega (arith, w .long, w .first-size, w .rest-size)
 
-one-label : (u : List Tag) → label (arrangeOne u) ≡ label u
-unfolding arrangeOne label
+one-label : (u : List Tag) → headTag (arrangeOne u) ≡ headTag u
+unfolding arrangeOne headTag
 one-label [] = refl
 one-label (h ∷ ts) = refl
 
-same-label : (u : List Tag) → label (trimmed false u) ≡ label u
+same-label : (u : List Tag) → headTag (trimmed false u) ≡ headTag u
 same-label u = trimmed-label false u
 
 -- The group's part of the section.
@@ -173,12 +173,12 @@ pub record Part (s : List ℕ) (at end : ℕ) (g : List ℕ) : Type 0 where
   pub plain : Plain (tagsOf g)
   pub tags : tagsOf g ≡ cut (isHead 1) (tagsOf (drop at s))
 
-part-at : (s : List ℕ) (at next end : ℕ) → at < length s → Led (drop at s) → Plain (tagsOf (drop at s)) → next ≡ at + 1 + length (label (tagsOf (drop at s))) → end ≡ endFrom 1 next (tagsOf (drop next s))
+part-at : (s : List ℕ) (at next end : ℕ) → at < length s → Led (drop at s) → Plain (tagsOf (drop at s)) → next ≡ at + 1 + length (headTag (tagsOf (drop at s))) → end ≡ endFrom 1 next (tagsOf (drop next s))
     → Part s at end (take (end - at) (drop at s))
 unfolding cut
 part-at s at next end h l p e k =
     let w = group-at 1 s at next h l e end k in
-    let t = label (split (drop (at + 1) s)) in
+    let t = headTag (split (drop (at + 1) s)) in
     let ts = tagsOf (drop next s) in
     let g = grouped (isHead 1) ts in
     let d : tagsOf (drop at s) ≡ (t ∷ g .before) ++ flat (g .groups) = head-tags 1 s at next h l e ∙ ap (_∷_ t) (grouped-all (isHead 1) ts) in

@@ -7,7 +7,7 @@ use native.Mathlib.Omega.{arith}
 use lib.ListN.{length, take, drop, length-drop}
 use lib.Seq.{take-add, take-all, length-take-le, drop-drop}
 use borrow.Author.Tests.{lt-leb, le-leb}
-use Rattle.standard.specs.Tag.{Tag, onto, order, insertBy, sortBy, itself, label}
+use Rattle.standard.specs.Tag.{Tag, onto, order, insertBy, sortBy, itself, headTag}
 use Rattle.standard.specs.Grammar.{separator, lowerByte, Groups, withTag, grouped, flat, isTwo, twoSize, sizeOf, dropTrue, arrangeKeywords}
 use Rattle.standard.specs.Reading.{split, afterFirst}
 use Rattle.subtag.specs.Subtags.{PlainTag}
@@ -17,15 +17,15 @@ use Rattle.arranging.proofs.Walk.{led-sep, split-rest}
 use Rattle.arranging.proofs.Pending.{led-append, length-led, grouped-all, end-before}
 
 -- a subtag in front of a section
-split-front : (s v : List ℕ) → Led v → split (take (length (label (split s))) s ++ v) ≡ label (split s) ∷ tagsOf v
-unfolding split label Led tagsOf onto
+split-front : (s v : List ℕ) → Led v → split (take (length (headTag (split s))) s ++ v) ≡ headTag (split s) ∷ tagsOf v
+unfolding split headTag Led tagsOf onto
 split-front [] v l = split-cons v ∙ ap (λ (t : Tag). t ∷ afterFirst (split v)) l
 split-front (b ∷ s) v l = go (separator b) refl (split-front s v l)
   where
-    go : (p : Bool) → separator b ≡ p → split (take (length (label (split s))) s ++ v) ≡ label (split s) ∷ tagsOf v
-        → split (take (length (label (split (b ∷ s)))) (b ∷ s) ++ v) ≡ label (split (b ∷ s)) ∷ tagsOf v
+    go : (p : Bool) → separator b ≡ p → split (take (length (headTag (split s))) s ++ v) ≡ headTag (split s) ∷ tagsOf v
+        → split (take (length (headTag (split (b ∷ s)))) (b ∷ s) ++ v) ≡ headTag (split (b ∷ s)) ∷ tagsOf v
     go true e i = rw (label-sep b s e) (split-cons v ∙ ap (λ (t : Tag). t ∷ afterFirst (split v)) l)
-    go false e i = rw (label-byte b s e) (split-byte b (take (length (label (split s))) s ++ v) e ∙ ap (onto (lowerByte b)) i)
+    go false e i = rw (label-byte b s e) (split-byte b (take (length (headTag (split s))) s ++ v) e ∙ ap (onto (lowerByte b)) i)
 
 pub record Parted (s : List ℕ) (n : ℕ) (x y : List Tag) : Type 0 where
   pub first : tagsOf (take n s) ≡ x
@@ -39,7 +39,7 @@ unfolding tagsOf split afterFirst
 nil-tags = refl
 
 nil-led : Led []
-unfolding Led split label
+unfolding Led split headTag
 nil-led = refl
 
 sep-begins : (b : ℕ) (s : List ℕ) → separator b ≡ true → Led (b ∷ s)
@@ -59,23 +59,23 @@ parted [] y s n l e z =
     let q : n ≡ 0 = sym z ∙ led-nil in
     rw q (record { first = nil-tags; first-begins = nil-led; rest = e; rest-begins = l; fits = omega arith })
 parted (t ∷ x) y [] n l e z = absurd (let w : _≡_ {A = ℕ} 0 1 = cc nil-tags in omega arith)
-parted (t ∷ x) y (b ∷ s) n l e z = go (parted x y (drop (length (label (split s))) s) (length (led x)) ((split-rest s) .begins) tail-is refl)
+parted (t ∷ x) y (b ∷ s) n l e z = go (parted x y (drop (length (headTag (split s))) s) (length (led x)) ((split-rest s) .begins) tail-is refl)
   where
     p : separator b ≡ true
     p = led-sep b s l
 
-    all : label (split s) ∷ tagsOf (drop (length (label (split s))) s) ≡ t ∷ (x ++ y)
-    all = ap (_∷_ (label (split s))) ((split-rest s) .tags) ∙ sym (split-cons s) ∙ sym (sep-tags b s p) ∙ e
+    all : headTag (split s) ∷ tagsOf (drop (length (headTag (split s))) s) ≡ t ∷ (x ++ y)
+    all = ap (_∷_ (headTag (split s))) ((split-rest s) .tags) ∙ sym (split-cons s) ∙ sym (sep-tags b s p) ∙ e
 
-    head-is : label (split s) ≡ t
+    head-is : headTag (split s) ≡ t
     head-is = cc all
 
-    tail-is : tagsOf (drop (length (label (split s))) s) ≡ x ++ y
+    tail-is : tagsOf (drop (length (headTag (split s))) s) ≡ x ++ y
     tail-is = cc all
 
-    go : Parted (drop (length (label (split s))) s) (length (led x)) x y → Parted (b ∷ s) n (t ∷ x) y
+    go : Parted (drop (length (headTag (split s))) s) (length (led x)) x y → Parted (b ∷ s) n (t ∷ x) y
     go i =
-        let m = length (label (split s)) in
+        let m = length (headTag (split s)) in
         let k = length (led x) in
         let h : n ≡ suc (m + k) = let f = length-led t x in let g = ap length head-is in omega arith in
         let f = i .fits in
@@ -94,21 +94,21 @@ parted (t ∷ x) y (b ∷ s) n l e z = go (parted x y (drop (length (label (spli
 abbrev one : Tag → List Tag
 one t = t ∷ []
 
-insert-ones : (t : Tag) (us : List Tag) → insertBy label (one t) (map one us) ≡ map one (insertBy itself t us)
-unfolding insertBy label
+insert-ones : (t : Tag) (us : List Tag) → insertBy headTag (one t) (map one us) ≡ map one (insertBy itself t us)
+unfolding insertBy headTag
 insert-ones t [] = refl
 insert-ones t (u ∷ us) = go (order t u) refl (insert-ones t us)
   where
-    go : (o : Ordering) → order t u ≡ o → insertBy label (one t) (map one us) ≡ map one (insertBy itself t us)
-        → insertBy label (one t) (map one (u ∷ us)) ≡ map one (insertBy itself t (u ∷ us))
+    go : (o : Ordering) → order t u ≡ o → insertBy headTag (one t) (map one us) ≡ map one (insertBy itself t us)
+        → insertBy headTag (one t) (map one (u ∷ us)) ≡ map one (insertBy itself t (u ∷ us))
     go Ordering·lt e i = rw (e, insertBy)
     go Ordering·eq e i = rw (e, insertBy)
     go Ordering·gt e i = rw (e, insertBy) (ap (_∷_ (one u)) i)
 
-sort-ones : (ts : List Tag) → sortBy label (map one ts) ≡ map one (sortBy itself ts)
+sort-ones : (ts : List Tag) → sortBy headTag (map one ts) ≡ map one (sortBy itself ts)
 unfolding sortBy
 sort-ones [] = refl
-sort-ones (t ∷ ts) = ap (insertBy label (one t)) (sort-ones ts) ∙ insert-ones t (sortBy itself ts)
+sort-ones (t ∷ ts) = ap (insertBy headTag (one t)) (sort-ones ts) ∙ insert-ones t (sortBy itself ts)
 
 flat-ones : (ts : List Tag) → flat (map one ts) ≡ ts
 unfolding flat
@@ -132,7 +132,7 @@ map-same (g ∷ gs) = ap (_∷_ g) (map-same gs)
 pub sorted-ones : (s : List ℕ) → Plain (tagsOf s) → sortedTags 8 false s ≡ sortBy itself (tagsOf s)
 unfolding sortedTags
 sorted-ones s h =
-    ap (λ (gs : List (List Tag)). flat (sortBy label gs)) (map-same ((grouped (isHead 8) (tagsOf s)) .groups) ∙ (grouped-ones (tagsOf s) h) .1)
+    ap (λ (gs : List (List Tag)). flat (sortBy headTag gs)) (map-same ((grouped (isHead 8) (tagsOf s)) .groups) ∙ (grouped-ones (tagsOf s) h) .1)
     ∙ ap flat (sort-ones (tagsOf s)) ∙ flat-ones (sortBy itself (tagsOf s))
 
 -- Heads of two bytes, where no subtag is shorter.
@@ -201,16 +201,16 @@ keywords-at s k l h o e =
       rest-plain = rw (w .rest) (p .1);
       first-size = length-take-le k s (w .fits);
       rest-size = length-drop k s;
-      bytes = ap (λ (q : Groups). led (sortBy itself (q .before) ++ flat (sortBy label (map dropTrue (q .groups))))) (grouped-two ts o)
-          ∙ led-append (sortBy itself (g .before)) (flat (sortBy label (map dropTrue (g .groups))))
+      bytes = ap (λ (q : Groups). led (sortBy itself (q .before) ++ flat (sortBy headTag (map dropTrue (q .groups))))) (grouped-two ts o)
+          ∙ led-append (sortBy itself (g .before)) (flat (sortBy headTag (map dropTrue (g .groups))))
           ∙ ap₂ (λ (x y : List Tag). led x ++ led y) (ap (sortBy itself) (sym (w .first)) ∙ sym (sorted-ones (take k s) f)) (sym (rest-tags (drop k s) ts (w .rest)));
     }
   where
     rest-tags : (r : List ℕ) (ts : List Tag) → tagsOf r ≡ flat ((grouped (isHead 2) ts) .groups)
-        → sortedTags 2 true r ≡ flat (sortBy label (map dropTrue ((grouped (isHead 2) ts) .groups)))
+        → sortedTags 2 true r ≡ flat (sortBy headTag (map dropTrue ((grouped (isHead 2) ts) .groups)))
     rest-tags r ts c =
-        ap (λ (x : List Tag). flat (sortBy label (map dropTrue ((grouped (isHead 2) x) .groups)))) c
-        ∙ ap (λ (gs : List (List Tag)). flat (sortBy label (map dropTrue gs))) (regrouped (isHead 2) ts)
+        ap (λ (x : List Tag). flat (sortBy headTag (map dropTrue ((grouped (isHead 2) x) .groups)))) c
+        ∙ ap (λ (gs : List (List Tag)). flat (sortBy headTag (map dropTrue gs))) (regrouped (isHead 2) ts)
 
 -- as the code lends the parts
 pub keywords : (s : List ℕ) (k : ℕ) → Led s → Plain (tagsOf s) → Longer (tagsOf s) → k ≡ endFrom 2 0 (tagsOf s) → Keywords s k (take k s) (take (length s - k) (drop k s))

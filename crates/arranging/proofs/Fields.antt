@@ -7,7 +7,7 @@ use native.Mathlib.Omega.{arith}
 use lib.ListN.{length, take, drop, length-append, length-map, length-drop}
 use lib.Seq.{take-all, length-take-le}
 use borrow.Author.Tests.{lt-leb}
-use Rattle.standard.specs.Tag.{Tag, sortBy, itself, label}
+use Rattle.standard.specs.Tag.{Tag, sortBy, itself, headTag}
 use Rattle.standard.specs.Grammar.{Groups, withTag, grouped, flat, only, others, isVariant, isFieldKey, arrangePart, arrangeFields}
 use Rattle.standard.specs.Reading.{split, afterFirst}
 use Rattle.subtag.specs.declared.Subtag.{Subtag}
@@ -68,7 +68,7 @@ part-at : (s : List ℕ) (v len : ℕ) (t : Subtag) → 0 < length s → Led s �
 unfolding sortedBytes tagTest
 part-at s v len t n l h k w e =
     let q : 0 + 1 + t .len ≡ 1 + t .len = omega arith in
-    let x = label (split (drop 1 s)) in
+    let x = headTag (split (drop 1 s)) in
     let ts = tagsOf (drop (1 + t .len) s) in
     let d : tagsOf s ≡ x ∷ ts = w .on .tags ∙ ap (λ (i : ℕ). x ∷ tagsOf (drop i s)) q in
     let g = grouped isVariant ts in
@@ -92,7 +92,7 @@ part-at s v len t n l h k w e =
     plain-tail : (t : Tag) (ts : List Tag) → Plain (t ∷ ts) → Plain ts
     plain-tail t ts p = (plain-parts (t ∷ []) ts p) .1
 
-pub part : (s : List ℕ) (v : ℕ) (t : Subtag) → 0 < length s → Led s → Plain (tagsOf s) → PartOk (tagsOf s) → t ≡ subtagOf (label (split (take (length s - 1) (drop 1 s))))
+pub part : (s : List ℕ) (v : ℕ) (t : Subtag) → 0 < length s → Led s → Plain (tagsOf s) → PartOk (tagsOf s) → t ≡ subtagOf (headTag (split (take (length s - 1) (drop 1 s))))
     → v ≡ placeOf Variant (1 + t .len) (tagsOf (drop (1 + t .len) s)) → PartAt s v (take v s) (take (length s - v) (drop v s))
 part s v t n l h k d e =
     let z : take (length s - v) (drop v s) ≡ drop v s = take-all (length s - v) (drop v s) (simp length-drop (omega arith)) in
@@ -103,7 +103,7 @@ unfolding arrangePart led
 part-none s e = ap (λ (x : List Tag). led (arrangePart x)) (tags-end s 0 (omega arith))
 
 -- the first subtag, as the code needs it
-pub part-first : (s : List ℕ) (t : Subtag) → 0 < length s → Led s → t ≡ subtagOf (label (split (take (length s - 1) (drop 1 s)))) → (1 + t .len ≤ length s) × Led (drop (1 + t .len) s)
+pub part-first : (s : List ℕ) (t : Subtag) → 0 < length s → Led s → t ≡ subtagOf (headTag (split (take (length s - 1) (drop 1 s)))) → (1 + t .len ≤ length s) × Led (drop (1 + t .len) s)
 part-first s t n l d =
     let w = stepped s 0 t n l d in
     let q : 0 + 1 + t .len ≡ 1 + t .len = omega arith in
@@ -153,8 +153,8 @@ fields-at s k l h o e =
       rest-size = length-drop k s;
       rest-begins = w .rest-begins;
       rest-plain = rw (w .rest) (p .1);
-      bytes = led-append (arrangePart (g .before)) (flat (sortBy label (g .groups)))
-          ∙ ap₂ (λ (x : List Tag) (y : List (List Tag)). led (arrangePart x) ++ led (flat (sortBy label y))) (sym (w .first)) (sym (map-same ((grouped (isHead 2) (tagsOf (drop k s))) .groups) ∙ c));
+      bytes = led-append (arrangePart (g .before)) (flat (sortBy headTag (g .groups)))
+          ∙ ap₂ (λ (x : List Tag) (y : List (List Tag)). led (arrangePart x) ++ led (flat (sortBy headTag y))) (sym (w .first)) (sym (map-same ((grouped (isHead 2) (tagsOf (drop k s))) .groups) ∙ c));
     }
 
 pub fields : (s : List ℕ) (k : ℕ) → Led s → Plain (tagsOf s) → FieldsOk (tagsOf s) → k ≡ placeOf Field 0 (tagsOf s) → FieldsAt s k (take k s) (take (length s - k) (drop k s))
@@ -167,7 +167,7 @@ pub part-size : (s : List ℕ) → Led s → Plain (tagsOf s) → PartOk (tagsOf
 part-size [] l h k = omega (arith, ap length (part-none [] refl))
 part-size (b ∷ r) l h k =
     let s = b ∷ r in
-    let t = subtagOf (label (split (take (length s - 1) (drop 1 s)))) in
+    let t = subtagOf (headTag (split (take (length s - 1) (drop 1 s)))) in
     let v = placeOf Variant (1 + t .len) (tagsOf (drop (1 + t .len) s)) in
     let w = part s v t (omega arith) l h k refl refl in
     let y = take (length s - v) (drop v s) in

@@ -9,7 +9,7 @@ use lib.Dec.{leb, ltb}
 use lib.ListN.{length, getD, take, drop, set, length-set, drop-of-length-le}
 use lib.Seq.{drop-cons, take-suc-set}
 use borrow.Author.Tests.{le-ltb}
-use Rattle.standard.specs.Tag.{Tag, label}
+use Rattle.standard.specs.Tag.{Tag, headTag}
 use Rattle.standard.specs.Reading.{split}
 use Rattle.subtag.specs.declared.Subtag.{Subtag}
 use Rattle.subtag.specs.Subtags.{subtagOf, PlainTag}
@@ -54,7 +54,7 @@ module _ (width : ℕ) (s keys places : List ℕ) (at i : ℕ) (j : Judging widt
   pub judging-next : (r : Subtag) (k : ℕ) → Stepped s at r → length s ≤ 256 → k ≡ headKey width r → Judging width s (set keys i k) (set places i at) (at + 1 + r .len) (i + 1)
   unfolding headKeys placesFrom
   judging-next r k w z e =
-      let t = label (split (drop (at + 1) s)) in
+      let t = headTag (split (drop (at + 1) s)) in
       let p = plain-here t _ (w .on .tags) in
       let n = w .size in
       let f = w .on .fits in

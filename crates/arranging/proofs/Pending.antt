@@ -10,7 +10,7 @@ use lib.Dec.{leb, ltb}
 use lib.ListN.{length, take, drop, length-append, length-drop, length-map}
 use lib.Seq.{take-at}
 use borrow.Author.Tests.{lt-ltb}
-use Rattle.standard.specs.Tag.{Tag, sortBy, label}
+use Rattle.standard.specs.Tag.{Tag, sortBy, headTag}
 use Rattle.standard.specs.Grammar.{withTag, grouped, flat}
 use Rattle.standard.specs.Reading.{split}
 use Rattle.arranging.specs.declared.choice.Head.{Head}
@@ -41,8 +41,8 @@ unfoldable pub cut : (Tag → Bool) → List Tag → List Tag
 cut p [] = []
 cut p (t ∷ ts) = t ∷ (grouped p ts) .before
 
-pub cut-label : (p : Tag → Bool) (u : List Tag) → label (cut p u) ≡ label u
-unfolding cut label
+pub cut-label : (p : Tag → Bool) (u : List Tag) → headTag (cut p u) ≡ headTag u
+unfolding cut headTag
 cut-label p [] = refl
 cut-label p (t ∷ ts) = refl
 
@@ -101,7 +101,7 @@ places s p (t ∷ ts) at h l e k = go (p t) (places s p ts (at + 1 + len) (w .fi
     inside = let n = length-led t ts in let z = size in omega arith
 
     len : ℕ
-    len = length (label (split (drop (at + 1) s)))
+    len = length (headTag (split (drop (at + 1) s)))
 
     w : Step s at len
     w = step s at len inside l refl
@@ -114,7 +114,7 @@ places s p (t ∷ ts) at h l e k = go (p t) (places s p ts (at + 1 + len) (w .fi
     go false i = i
 
 labelled : (p : Tag → Bool) (ts : List Tag) → Plain ts → All Labelled (tails p ts)
-unfolding Plain tails All label
+unfolding Plain tails All headTag
 labelled p [] h = tt
 labelled p (t ∷ ts) h = go (p t) (labelled p ts (h .1))
   where
@@ -130,18 +130,18 @@ each-tails P p (u ∷ us) a = (a .0, each-tails P p us (a .1))
 -- The search gives the least suffix.
 unfoldable pub headAt : ℕ → Option (List Tag) → Head
 headAt n none = noHead n
-headAt n (some u) = record { at = n - length (led u); next = n - length (led u) + 1 + length (label u); key = keyOf (label u) }
+headAt n (some u) = record { at = n - length (led u); next = n - length (led u) + 1 + length (headTag u); key = keyOf (headTag u) }
 
 better-head : (width last n at : ℕ) (B : Option (List Tag)) (t : Tag) (ts : List Tag) → n ≡ at + length (led (t ∷ ts)) → PlainTag t
     → isHead width t ≡ true → ltb last (keyOf t) ≡ true
     → betterOf width last at (subtagOf t) (headAt n B) ≡ headAt n (lesser number B (some (t ∷ ts)))
-unfolding betterOf subtagOf headAt noHead isHead lesser label
+unfolding betterOf subtagOf headAt noHead isHead lesser headTag
 better-head width last n at none t ts e h a b =
     let p : n - length (led (t ∷ ts)) ≡ at = omega arith in
     simp (a, b, lt-ltb (keyOf t) 18446744073709551615 (key-below t h), p)
 better-head width last n at (some u) t ts e h a b =
     let p : n - length (led (t ∷ ts)) ≡ at = omega arith in
-    simp (a, b) (go (ltb (keyOf t) (keyOf (label u))) p)
+    simp (a, b) (go (ltb (keyOf t) (keyOf (headTag u))) p)
   where
     go : (q : Bool) → n - length (led (t ∷ ts)) ≡ at
         → cond q (record { at = at; next = at + 1 + length t; key = keyOf t }) (headAt n (some u)) ≡ headAt n (cond q (some (t ∷ ts)) (some u))
@@ -162,7 +162,7 @@ better-long width last at best t a = simp a
 
 pick-least : (width last n at : ℕ) (B : Option (List Tag)) (ts : List Tag) → n ≡ at + length (led ts) → Plain ts
     → pickFrom width last at (headAt n B) ts ≡ headAt n (lesser number B (least number last (tails (isHead width) ts)))
-unfolding pickFrom Plain tails least lesser label
+unfolding pickFrom Plain tails least lesser headTag
 pick-least width last n at none [] e h = refl
 pick-least width last n at (some u) [] e h = refl
 pick-least width last n at B (t ∷ ts) e h =
@@ -189,7 +189,7 @@ pending f width s last = flat (map f (map (cut (isHead width)) (above number las
 over-zero : (us : List (List Tag)) → All Labelled us → Over number 0 us
 unfolding All Over
 over-zero [] a = tt
-over-zero (u ∷ us) a = (key-above (label u) (a .0), over-zero us (a .1))
+over-zero (u ∷ us) a = (key-above (headTag u) (a .0), over-zero us (a .1))
 
 unfoldable IfSome : (List Tag → Type 0) → Option (List Tag) → Type 0
 IfSome P none = Unit {0}
@@ -225,24 +225,24 @@ pub record Ahead (s : List ℕ) (next : ℕ) : Type 0 where
   pub fits : next ≤ length s
   pub begins : Led (drop next s)
 
-module _ (width : ℕ) (s : List ℕ) (at next : ℕ) (h : at < length s) (l : Led (drop at s)) (e : next ≡ at + 1 + length (label (tagsOf (drop at s)))) where
-  head-step : Step s at (length (label (split (drop (at + 1) s))))
-  head-step = step s at (length (label (split (drop (at + 1) s)))) h l refl
+module _ (width : ℕ) (s : List ℕ) (at next : ℕ) (h : at < length s) (l : Led (drop at s)) (e : next ≡ at + 1 + length (headTag (tagsOf (drop at s)))) where
+  head-step : Step s at (length (headTag (split (drop (at + 1) s))))
+  head-step = step s at (length (headTag (split (drop (at + 1) s)))) h l refl
 
-  pub next-is : next ≡ at + 1 + length (label (split (drop (at + 1) s)))
-  unfolding label
-  next-is = e ∙ ap (λ (u : List Tag). at + 1 + length (label u)) (head-step .tags)
+  pub next-is : next ≡ at + 1 + length (headTag (split (drop (at + 1) s)))
+  unfolding headTag
+  next-is = e ∙ ap (λ (u : List Tag). at + 1 + length (headTag u)) (head-step .tags)
 
   pub ahead : Ahead s next
   ahead = rw next-is (record { fits = head-step .fits; begins = head-step .begins })
 
-  pub head-tags : tagsOf (drop at s) ≡ label (split (drop (at + 1) s)) ∷ tagsOf (drop next s)
+  pub head-tags : tagsOf (drop at s) ≡ headTag (split (drop (at + 1) s)) ∷ tagsOf (drop next s)
   head-tags = rw next-is (head-step .tags)
 
   pub group-at : (end : ℕ) → end ≡ endFrom width next (tagsOf (drop next s)) → GroupAt width s at next end
   unfolding cut
   group-at end k =
-      let t = label (split (drop (at + 1) s)) in
+      let t = headTag (split (drop (at + 1) s)) in
       let ts = tagsOf (drop next s) in
       let g = grouped (isHead width) ts in
       let c : cut (isHead width) (tagsOf (drop at s)) ≡ t ∷ g .before = ap (cut (isHead width)) head-tags in
@@ -268,18 +268,18 @@ pub record Found (f : List Tag → List Tag) (width : ℕ) (s : List ℕ) (last 
   pub inside : r .at < length s
   pub begins : Led (drop (r .at) s)
   pub plain : Plain (tagsOf (drop (r .at) s))
-  pub next-is : r .next ≡ r .at + 1 + length (label (tagsOf (drop (r .at) s)))
+  pub next-is : r .next ≡ r .at + 1 + length (headTag (tagsOf (drop (r .at) s)))
   pub more : pending f width s last ≡ f (cut (isHead width) (tagsOf (drop (r .at) s))) ++ pending f width s (r .key)
 
-module _ (f : List Tag → List Tag) (keeps : (u : List Tag) → label (f u) ≡ label u) (width : ℕ) (s : List ℕ) (l : Led s) (h : Plain (tagsOf s)) where
-  pub pending-start : flat (sortBy label (map f ((grouped (isHead width) (tagsOf s)) .groups))) ≡ pending f width s 0
+module _ (f : List Tag → List Tag) (keeps : (u : List Tag) → headTag (f u) ≡ headTag u) (width : ℕ) (s : List ℕ) (l : Led s) (h : Plain (tagsOf s)) where
+  pub pending-start : flat (sortBy headTag (map f ((grouped (isHead width) (tagsOf s)) .groups))) ≡ pending f width s 0
   unfolding pending
   pending-start =
       let p = isHead width in
       let us = tails p (tagsOf s) in
       let a = labelled p (tagsOf s) h in
       let c : above number 0 (sortN number us) ≡ sortN number us = above-all number 0 (sortN number us) (sort-over number 0 us (over-zero us a)) in
-      ap (λ (gs : List (List Tag)). flat (sortBy label (map f gs))) (groups-tails p (tagsOf s))
+      ap (λ (gs : List (List Tag)). flat (sortBy headTag (map f gs))) (groups-tails p (tagsOf s))
       ∙ ap flat (sort-map f keeps (map (cut p) us) ∙ ap (map f) (sort-map (cut p) (cut-label p) us ∙ ap (map (cut p)) (sort-number us a ∙ sym c)))
 
   module _ (last : ℕ) (r : Head) (e : r ≡ pickFrom width last 0 (noHead (length s)) (tagsOf s)) where
@@ -299,15 +299,15 @@ module _ (f : List Tag → List Tag) (keeps : (u : List Tag) → label (f u) ≡
         let c = chosen number last (tails (isHead width) (tagsOf s)) u o in
         let q = found-head ∙ ap (headAt (length s)) o in
         let a : r .at ≡ pl .place = ap (λ (x : Head). x .at) q ∙ sym (pl .is) in
-        let k : r .key ≡ keyOf (label u) = ap (λ (x : Head). x .key) q in
+        let k : r .key ≡ keyOf (headTag u) = ap (λ (x : Head). x .key) q in
         let t : tagsOf (drop (r .at) s) ≡ u = ap (λ (n : ℕ). tagsOf (drop n s)) a ∙ pl .tags in
-        let n : r .next ≡ length s - length (led u) + 1 + length (label u) = ap (λ (x : Head). x .next) q in
+        let n : r .next ≡ length s - length (led u) + 1 + length (headTag u) = ap (λ (x : Head). x .next) q in
         record {
           rises = omega (arith, c .0);
           inside = omega (arith, pl .inside);
           begins = rw a (pl .begins);
           plain = rw t (pl .plain);
-          next-is = n ∙ ap₂ (λ (x : ℕ) (v : List Tag). x + 1 + length (label v)) (sym (pl .is) ∙ sym a) (sym t);
+          next-is = n ∙ ap₂ (λ (x : ℕ) (v : List Tag). x + 1 + length (headTag v)) (sym (pl .is) ∙ sym a) (sym t);
           more = ap (λ (x : List (List Tag)). flat (map f (map (cut (isHead width)) x))) (c .1)
               ∙ ap₂ (λ (v : List Tag) (n : ℕ). f (cut (isHead width) v) ++ flat (map f (map (cut (isHead width)) (above number n (sortN number (tails (isHead width) (tagsOf s))))))) (sym t) (sym k);
         }

@@ -5,7 +5,7 @@ use Prim.Native.Nat.{ℕ, _+_, _-_, _≤_, _<_}
 use native.Mathlib.Omega.{arith}
 use lib.ListN.{length, take, drop}
 use borrow.Author.Tests.{le-leb, lt-leb}
-use Rattle.standard.specs.Tag.{label}
+use Rattle.standard.specs.Tag.{headTag}
 use Rattle.standard.specs.Reading.{split}
 use Rattle.subtag.specs.declared.Subtag.{Subtag}
 use Rattle.arranging.specs.declared.choice.Head.{Head}
@@ -16,14 +16,14 @@ use Rattle.arranging.proofs.Walk.{Step, step, tags-end}
 
 -- what the subtag's answer for the part behind the separator says
 pub record Stepped (s : List ℕ) (at : ℕ) (r : Subtag) : Type 0 where
-  pub is : r ≡ subtagOf (label (split (drop (at + 1) s)))
-  pub size : r .len ≡ length (label (split (drop (at + 1) s)))
+  pub is : r ≡ subtagOf (headTag (split (drop (at + 1) s)))
+  pub size : r .len ≡ length (headTag (split (drop (at + 1) s)))
   pub on : Step s at (r .len)
 
-pub stepped : (s : List ℕ) (at : ℕ) (r : Subtag) → at < length s → Led (drop at s) → r ≡ subtagOf (label (split (take (length s - (at + 1)) (drop (at + 1) s)))) → Stepped s at r
+pub stepped : (s : List ℕ) (at : ℕ) (r : Subtag) → at < length s → Led (drop at s) → r ≡ subtagOf (headTag (split (take (length s - (at + 1)) (drop (at + 1) s)))) → Stepped s at r
 stepped s at r h l e =
     let i = judged s (at + 1) r e in
-    let n = judged-len (label (split (drop (at + 1) s))) r i in
+    let n = judged-len (headTag (split (drop (at + 1) s))) r i in
     record { is = i; size = n; on = step s at (r .len) h l n }
 
 module _ (s : List ℕ) (at : ℕ) (r : Subtag) (w : Stepped s at r) where
@@ -37,12 +37,12 @@ module _ (s : List ℕ) (at : ℕ) (r : Subtag) (w : Stepped s at r) where
 
   pub end-here : (width : ℕ) → r .len ≤ width → endFrom width at (tagsOf (drop at s)) ≡ at
   unfolding endFrom isHead
-  end-here width h = ap (endFrom width at) (w .on .tags) ∙ simp (le-leb (length (label (split (drop (at + 1) s)))) width (omega (arith, w .size)))
+  end-here width h = ap (endFrom width at) (w .on .tags) ∙ simp (le-leb (length (headTag (split (drop (at + 1) s)))) width (omega (arith, w .size)))
 
   pub end-next : (width : ℕ) → width < r .len → endFrom width at (tagsOf (drop at s)) ≡ endFrom width (at + 1 + r .len) (tagsOf (drop (at + 1 + r .len) s))
   unfolding endFrom isHead
   end-next width h =
-      ap (endFrom width at) (w .on .tags) ∙ simp (lt-leb (length (label (split (drop (at + 1) s)))) width (omega (arith, w .size)))
+      ap (endFrom width at) (w .on .tags) ∙ simp (lt-leb (length (headTag (split (drop (at + 1) s)))) width (omega (arith, w .size)))
       (ap (λ (k : ℕ). endFrom width (at + 1 + k) (tagsOf (drop (at + 1 + r .len) s))) (sym (w .size)))
 
 pub pick-done : (s : List ℕ) (width last at : ℕ) (best : Head) → length s ≤ at → pickFrom width last at best (tagsOf (drop at s)) ≡ best

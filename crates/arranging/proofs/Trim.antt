@@ -8,7 +8,7 @@ use lib.Dec.{eqb, isEq}
 use lib.ListN.{length, take, drop}
 use lib.Seq.{take-at}
 use borrow.Author.Tests.{lt-leb, le-leb, eq-eqb, ne-eqb}
-use Rattle.standard.specs.Tag.{Tag, same, label}
+use Rattle.standard.specs.Tag.{Tag, same, headTag}
 use Rattle.standard.specs.Grammar.{grouped, flat, dropTrue, trueTag}
 use Rattle.standard.specs.Reading.{split}
 use Rattle.subtag.specs.declared.Subtag.{Subtag}
@@ -36,8 +36,8 @@ drop-no : (k v : Tag) → same v trueTag ≡ false → dropTrue (k ∷ v ∷ [])
 unfolding dropTrue
 drop-no k v e = rw (e, dropTrue)
 
-label-cons : (t : Tag) (ts : List Tag) → length (label (t ∷ ts)) ≡ length t
-unfolding label
+label-cons : (t : Tag) (ts : List Tag) → length (headTag (t ∷ ts)) ≡ length t
+unfolding headTag
 label-cons t ts = refl
 
 -- a front of a section's subtags, and the bytes of it
@@ -54,7 +54,7 @@ pub trim-none : (trim : Bool) (s : List ℕ) (next end : ℕ) → trim ≡ true 
 unfolding trimmedEnd
 trim-none trim s next end e h = simp (e, le-leb end next h)
 
-pub trim-on : (trim : Bool) (s : List ℕ) (next end : ℕ) (r : Subtag) → trim ≡ true → next < end → r ≡ subtagOf (label (split (take (length s - (next + 1)) (drop (next + 1) s))))
+pub trim-on : (trim : Bool) (s : List ℕ) (next end : ℕ) (r : Subtag) → trim ≡ true → next < end → r ≡ subtagOf (headTag (split (take (length s - (next + 1)) (drop (next + 1) s))))
     → endWithout r next end ≡ trimmedEnd trim s next end
 unfolding trimmedEnd
 trim-on trim s next end r e h q = simp (e, lt-leb end next h) (ap (λ (t : Subtag). endWithout t next end) (judged s (next + 1) r q))
@@ -65,7 +65,7 @@ pub record Trimmed (width : ℕ) (trim : Bool) (s : List ℕ) (at next stop : �
   pub bytes : map tidyByte (take (stop - at) (drop at s)) ≡ led (trimmed trim (cut (isHead width) (tagsOf (drop at s))))
 
 module _ (width : ℕ) (s : List ℕ) (at next end : ℕ) (h : at < length s) (l : Led (drop at s)) (pl : Plain (tagsOf (drop at s)))
-    (e : next ≡ at + 1 + length (label (tagsOf (drop at s)))) (k : end ≡ endFrom width next (tagsOf (drop next s))) where
+    (e : next ≡ at + 1 + length (headTag (tagsOf (drop at s)))) (k : end ≡ endFrom width next (tagsOf (drop next s))) where
   complete : (trim : Bool) (g : List Tag) (stop : ℕ) → stop ≡ end → cut (isHead width) (tagsOf (drop at s)) ≡ g → trimmed trim g ≡ g → Trimmed width trim s at next stop
   complete trim g stop q c d =
       let w = group-at width s at next h l e end k in
@@ -87,8 +87,8 @@ module _ (width : ℕ) (s : List ℕ) (at next end : ℕ) (h : at < length s) (l
       inside : next < length s
       inside = let w = group-at width s at next h l e end k in let z = size in omega (arith, w .fits)
 
-      is : label (split (drop (next + 1) s)) ≡ v
-      is = cc (g, (step s next (length (label (split (drop (next + 1) s)))) inside (a .begins) refl) .tags)
+      is : headTag (split (drop (next + 1) s)) ≡ v
+      is = cc (g, (step s next (length (headTag (split (drop (next + 1) s)))) inside (a .begins) refl) .tags)
 
       plain : PlainTag v
       plain = (rw (f ∙ ap (_∷_ t) g) at pl) .1 .0
@@ -101,7 +101,7 @@ module _ (width : ℕ) (s : List ℕ) (at next end : ℕ) (h : at < length s) (l
           let z = size in
           let m : length (led bs) ≡ 0 = ap (λ (x : List Tag). length (led x)) o in
           let y : stop ≡ next = now-is ∙ simp (eq-eqb (next + 1 + length v) end (omega arith), b) in
-          let x : next - at ≡ length (led (t ∷ [])) = let i = ap (λ (u : List Tag). at + 1 + length (label u)) f in let j = length-led t [] in omega (arith, label-cons t (tagsOf (drop next s))) in
+          let x : next - at ≡ length (led (t ∷ [])) = let i = ap (λ (u : List Tag). at + 1 + length (headTag u)) f in let j = length-led t [] in omega (arith, label-cons t (tagsOf (drop next s))) in
           let d : trimmed true (cut (isHead width) (tagsOf (drop at s))) ≡ t ∷ [] = ap dropTrue (c ∙ ap (λ (r : List Tag). t ∷ v ∷ r) o) ∙ drop-yes t v (same-true v plain ∙ b) in
           rw y (record { after = omega arith; fits = a .fits; bytes = front-bytes s at (next - at) (t ∷ []) (tagsOf (drop next s)) l f (sym x) ∙ ap led (sym d) })
       ends false b o =
@@ -123,5 +123,5 @@ module _ (width : ℕ) (s : List ℕ) (at next end : ℕ) (h : at < length s) (l
   unfolding trimmedEnd trimmed cut
   trim-at false stop q = complete false _ stop q refl refl
   trim-at true stop q =
-      trim-more (label (split (drop (at + 1) s))) ((grouped (isHead width) (tagsOf (drop next s))) .before) stop (head-tags width s at next h l e)
+      trim-more (headTag (split (drop (at + 1) s))) ((grouped (isHead width) (tagsOf (drop next s))) .before) stop (head-tags width s at next h l e)
       (ap (cut (isHead width)) (head-tags width s at next h l e)) (grouped-all (isHead width) (tagsOf (drop next s))) (k ∙ end-before width next (tagsOf (drop next s))) q

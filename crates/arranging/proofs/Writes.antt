@@ -6,7 +6,7 @@ use Prim.Native.Nat.{ℕ, _+_, _-_, _≤_, _<_, Ordering, Ordering·lt, Ordering
 use native.Mathlib.Omega.{arith}
 use lib.ListN.{length, take, drop, length-append, length-map}
 use lib.Seq.{sets, length-sets}
-use Rattle.standard.specs.Tag.{Tag, order, same, insertBy, sortBy, label}
+use Rattle.standard.specs.Tag.{Tag, order, same, insertBy, sortBy, headTag}
 use Rattle.standard.specs.Grammar.{grouped, flat, dropTrue, trueTag}
 use Rattle.arranging.specs.declared.choice.Head.{Head}
 use Rattle.subtag.specs.Bytes.{tidyByte}
@@ -21,21 +21,21 @@ size ts = length (led ts)
 size-append : (x y : List Tag) → size (x ++ y) ≡ size x + size y
 size-append x y = ap length (led-append x y) ∙ length-append (led x) (led y)
 
-insert-size : (x : List Tag) (ys : List (List Tag)) → size (flat (insertBy label x ys)) ≤ size x + size (flat ys)
+insert-size : (x : List Tag) (ys : List (List Tag)) → size (flat (insertBy headTag x ys)) ≤ size x + size (flat ys)
 unfolding insertBy flat
 insert-size x [] = omega (arith, size-append x [])
-insert-size x (y ∷ ys) = go (order (label x) (label y)) refl (insert-size x ys)
+insert-size x (y ∷ ys) = go (order (headTag x) (headTag y)) refl (insert-size x ys)
   where
-    go : (o : Ordering) → order (label x) (label y) ≡ o → size (flat (insertBy label x ys)) ≤ size x + size (flat ys)
-        → size (flat (insertBy label x (y ∷ ys))) ≤ size x + size (flat (y ∷ ys))
+    go : (o : Ordering) → order (headTag x) (headTag y) ≡ o → size (flat (insertBy headTag x ys)) ≤ size x + size (flat ys)
+        → size (flat (insertBy headTag x (y ∷ ys))) ≤ size x + size (flat (y ∷ ys))
     go Ordering·lt e i = rw (e, insertBy) (omega (arith, size-append x (y ++ flat ys)))
     go Ordering·eq e i = rw (e, insertBy) (omega (arith, size-append x (flat ys), size-append y (flat ys)))
-    go Ordering·gt e i = rw (e, insertBy) (omega (arith, size-append y (flat (insertBy label x ys)), size-append y (flat ys)))
+    go Ordering·gt e i = rw (e, insertBy) (omega (arith, size-append y (flat (insertBy headTag x ys)), size-append y (flat ys)))
 
-pub sort-size : (gs : List (List Tag)) → size (flat (sortBy label gs)) ≤ size (flat gs)
+pub sort-size : (gs : List (List Tag)) → size (flat (sortBy headTag gs)) ≤ size (flat gs)
 unfolding sortBy flat
 sort-size [] = omega arith
-sort-size (g ∷ gs) = let i = sort-size gs in let j = insert-size g (sortBy label gs) in omega (arith, size-append g (flat gs))
+sort-size (g ∷ gs) = let i = sort-size gs in let j = insert-size g (sortBy headTag gs) in omega (arith, size-append g (flat gs))
 
 trimmed-size : (trim : Bool) (g : List Tag) → size (trimmed trim g) ≤ size g
 unfolding trimmed dropTrue
@@ -49,14 +49,14 @@ trimmed-size true (k ∷ v ∷ []) = go (same v trueTag) refl
     go false e = rw (e, dropTrue) (omega arith)
 trimmed-size true (k ∷ v ∷ w ∷ ws) = omega arith
 
-pub trimmed-label : (trim : Bool) (g : List Tag) → label (trimmed trim g) ≡ label g
-unfolding trimmed dropTrue label
+pub trimmed-label : (trim : Bool) (g : List Tag) → headTag (trimmed trim g) ≡ headTag g
+unfolding trimmed dropTrue headTag
 trimmed-label false g = refl
 trimmed-label true [] = refl
 trimmed-label true (k ∷ []) = refl
 trimmed-label true (k ∷ v ∷ []) = go (same v trueTag) refl
   where
-    go : (b : Bool) → same v trueTag ≡ b → label (dropTrue (k ∷ v ∷ [])) ≡ k
+    go : (b : Bool) → same v trueTag ≡ b → headTag (dropTrue (k ∷ v ∷ [])) ≡ k
     go true e = rw (e, dropTrue)
     go false e = rw (e, dropTrue)
 trimmed-label true (k ∷ v ∷ w ∷ ws) = refl

@@ -6,7 +6,7 @@ use mathlib.Core.List.{List, [], _∷_, _++_, map}
 use Prim.Native.Nat.{ℕ, _+_, _<_}
 use lib.Dec.{leb, ltb, eqb}
 use lib.ListN.{length, drop}
-use Rattle.standard.specs.Tag.{Tag, same, sortBy, label}
+use Rattle.standard.specs.Tag.{Tag, same, sortBy, headTag}
 use Rattle.standard.specs.Grammar.{grouped, flat, dropTrue, tTag, arrange, variantKind, isFieldKey, isVariant}
 use Rattle.standard.specs.Reading.{split, afterFirst}
 use Rattle.subtag.specs.declared.Subtag.{Subtag}
@@ -26,7 +26,7 @@ led (t ∷ ts) = 45 ∷ (t ++ led ts)
 
 -- empty, or begins with a separator
 unfoldable pub Led : List ℕ → Type 0
-Led s = label (split s) ≡ []
+Led s = headTag (split s) ≡ []
 
 unfoldable pub Plain : List Tag → Type 0
 Plain [] = Unit {0}
@@ -68,7 +68,7 @@ unfoldable pub endWithout : Subtag → ℕ → ℕ → ℕ
 endWithout t next end = cond (eqb (next + 1 + t .len) end) (cond (eqb (t .key) 8390898132396802048) next end) end
 
 unfoldable pub trimmedEnd : Bool → List ℕ → ℕ → ℕ → ℕ
-trimmedEnd trim s next end = cond trim (cond (leb end next) end (endWithout (subtagOf (label (split (drop (next + 1) s)))) next end)) end
+trimmedEnd trim s next end = cond trim (cond (leb end next) end (endWithout (subtagOf (headTag (split (drop (next + 1) s)))) next end)) end
 
 unfoldable pub trimmed : Bool → List Tag → List Tag
 trimmed true g = dropTrue g
@@ -76,7 +76,7 @@ trimmed false g = g
 
 -- the groups of a section, sorted, and in `u` without a type that is `true`
 unfoldable pub sortedTags : ℕ → Bool → List ℕ → List Tag
-sortedTags width trim s = flat (sortBy label (map (trimmed trim) ((grouped (isHead width) (tagsOf s)) .groups)))
+sortedTags width trim s = flat (sortBy headTag (map (trimmed trim) ((grouped (isHead width) (tagsOf s)) .groups)))
 
 unfoldable pub sortedBytes : ℕ → Bool → List ℕ → List ℕ
 sortedBytes width trim s = led (sortedTags width trim s)

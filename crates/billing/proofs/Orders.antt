@@ -16,7 +16,7 @@ use Rattle.standard.proofs.Tags.{order-flip, order-eq, flip}
 use Rattle.standard.proofs.Faults.{order-trans}
 use Rattle.billing.specs.Order.{Reordered, ended, kept, swapped, again}
 use Rattle.billing.proofs.Keys.{or-swap}
-use Rattle.billing.specs.Bill.{Usage, usage, accepted, usages, refusing, refusals, keysOf, more, deliveries, used, membersUpTo, members, Row, rowOf, bill, none-made, mostKeys, mostLines, billOf}
+use Rattle.billing.specs.Bill.{Usage, usage, accepted, usages, refusing, refusals, keysOf, more, deliveries, used, membersUpTo, members, Row, rowOf, bill, refusedWith, mostKeys, mostLines, billOf}
 
 pub reordered-refl : {A : Type 0} (xs : List A) → Reordered xs xs
 reordered-refl [] = ended
@@ -145,7 +145,7 @@ pub length-order : {A : Type 0} {xs ys : List A} → Reordered xs ys → length 
 length-order r = same-made (λ _ (n : ℕ). suc n) length (λ x xs. refl) (λ x y n. refl) r
 
 within-all : (T : Tables) (ls : List Bytes) → length ls ≤ mostLines
-    → billOf T ls ≡ cond (ltb mostKeys (length (keysOf (usages T ls)))) (none-made 17) (bill (map (rowOf (usages T ls)) (keysOf (usages T ls))) (refusals T ls))
+    → billOf T ls ≡ cond (ltb mostKeys (length (keysOf (usages T ls)))) (refusedWith 17) (bill (map (rowOf (usages T ls)) (keysOf (usages T ls))) (refusals T ls))
 unfolding billOf
 within-all T ls h = rw (take-all mostLines ls h, le-ltb mostLines (length ls) h)
 
@@ -155,9 +155,9 @@ any-order T ls ms r h =
     let k = usages-order T r in
     let n : length ms ≤ mostLines = rw (length-order r) at h in
     within-all T ls h
-    ∙ ap (λ (ks : List Tag). cond (ltb mostKeys (length ks)) (none-made 17) (bill (map (rowOf (usages T ls)) ks) (refusals T ls))) (keys-order k)
-    ∙ ap (λ (rs : List Row). cond (ltb mostKeys (length (keysOf (usages T ms)))) (none-made 17) (bill rs (refusals T ls))) (rows-order k (keysOf (usages T ms)))
-    ∙ ap (λ (c : ℕ). cond (ltb mostKeys (length (keysOf (usages T ms)))) (none-made 17) (bill (map (rowOf (usages T ms)) (keysOf (usages T ms))) c)) (refusals-order T r)
+    ∙ ap (λ (ks : List Tag). cond (ltb mostKeys (length ks)) (refusedWith 17) (bill (map (rowOf (usages T ls)) ks) (refusals T ls))) (keys-order k)
+    ∙ ap (λ (rs : List Row). cond (ltb mostKeys (length (keysOf (usages T ms)))) (refusedWith 17) (bill rs (refusals T ls))) (rows-order k (keysOf (usages T ms)))
+    ∙ ap (λ (c : ℕ). cond (ltb mostKeys (length (keysOf (usages T ms)))) (refusedWith 17) (bill (map (rowOf (usages T ms)) (keysOf (usages T ms))) c)) (refusals-order T r)
     ∙ sym (within-all T ms n)
 
 -- a bill that was not refused has at most 1,000,000 lines
@@ -165,7 +165,7 @@ small-bill : (T : Tables) (ls : List Bytes) (rs : List Row) (r : ℕ) → billOf
 unfolding billOf
 small-bill T ls rs r = go (ltb mostKeys (length (keysOf (usages T (take mostLines ls))))) (ltb mostLines (length ls)) refl
   where
-    go : (a b : Bool) → ltb mostLines (length ls) ≡ b → cond a (none-made 17) (cond b (none-made 18) (bill (map (rowOf (usages T ls)) (keysOf (usages T ls))) (refusals T ls))) ≡ bill rs r → length ls ≤ mostLines
+    go : (a b : Bool) → ltb mostLines (length ls) ≡ b → cond a (refusedWith 17) (cond b (refusedWith 18) (bill (map (rowOf (usages T ls)) (keysOf (usages T ls))) (refusals T ls))) ≡ bill rs r → length ls ≤ mostLines
     go true b f e = absurd (let z : _≡_ {A = ℕ} 0 1 = cc in omega arith)
     go false true f e = absurd (let z : _≡_ {A = ℕ} 0 1 = cc in omega arith)
     go false false f e = ltb-false mostLines (length ls) f

@@ -11,7 +11,7 @@ use Rattle.standard.specs.Tag.{Tag, same}
 use Rattle.standard.specs.Identifier.{Tables}
 use Rattle.standard.specs.Delivery.{Bytes}
 use Rattle.standard.proofs.Tags.{All, same-refl}
-use Rattle.billing.specs.Bill.{Usage, usage, accepted, usages, refusing, refusals, keysOf, more, deliveries, Row, rowOf, bill, none-made, mostKeys, mostLines, billOf, total}
+use Rattle.billing.specs.Bill.{Usage, usage, accepted, usages, refusing, refusals, keysOf, more, deliveries, Row, rowOf, bill, refusedWith, mostKeys, mostLines, billOf, total}
 use Rattle.billing.proofs.Keys.{elem, times, same-sym, times-sorted}
 
 -- the deliveries of some keys, by the usages
@@ -75,7 +75,7 @@ pub bill-parts : (T : Tables) (ls : List Bytes) (rs : List Row) (r : ℕ) → bi
 unfolding billOf
 bill-parts T ls rs r = go (ltb mostKeys (length (keysOf (usages T (take mostLines ls))))) (ltb mostLines (length ls))
   where
-    go : (a b : Bool) → cond a (none-made 17) (cond b (none-made 18) (bill (map (rowOf (usages T ls)) (keysOf (usages T ls))) (refusals T ls))) ≡ bill rs r
+    go : (a b : Bool) → cond a (refusedWith 17) (cond b (refusedWith 18) (bill (map (rowOf (usages T ls)) (keysOf (usages T ls))) (refusals T ls))) ≡ bill rs r
         → (map (rowOf (usages T ls)) (keysOf (usages T ls)) ≡ rs) × (refusals T ls ≡ r)
     go true b e = (cc, cc)
     go false true e = (cc, cc)

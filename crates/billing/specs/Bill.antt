@@ -119,7 +119,7 @@ rowOf us k = record { key = k; members = members k us; deliveries = deliveries k
 -- A bill: its rows and the number of refused lines; or the number of a refusal.
 pub data Bill : Type 0 where
   bill : List Row → ℕ → Bill
-  none-made : ℕ → Bill
+  refusedWith : ℕ → Bill
 
 unfoldable pub mostKeys : ℕ
 mostKeys = 512
@@ -131,8 +131,8 @@ mostLines = 1000000
 -- the first 1,000,000 lines have more than 512 keys.
 unfoldable pub billOf : Tables → List Bytes → Bill
 billOf T ls =
-    cond (ltb mostKeys (length (keysOf (usages T (take mostLines ls))))) (none-made 17)
-    (cond (ltb mostLines (length ls)) (none-made 18) (bill (map (rowOf (usages T ls)) (keysOf (usages T ls))) (refusals T ls)))
+    cond (ltb mostKeys (length (keysOf (usages T (take mostLines ls))))) (refusedWith 17)
+    (cond (ltb mostLines (length ls)) (refusedWith 18) (bill (map (rowOf (usages T ls)) (keysOf (usages T ls))) (refusals T ls)))
 
 -- the deliveries column, without its last row
 unfoldable pub total : List Row → ℕ

@@ -8,7 +8,7 @@ use native.Mathlib.Omega.{arith}
 use lib.Dec.{leb, eqb}
 use lib.ListN.{length}
 use borrow.Author.Tests.{leb-true, eqb-true}
-use Rattle.standard.specs.Tag.{Tag, onto, label}
+use Rattle.standard.specs.Tag.{Tag, onto, headTag}
 use Rattle.standard.specs.Grammar.{separator, small, capital, digit, lowerByte, wrongLength, sizeOf}
 use Rattle.standard.specs.Reading.{split, afterFirst, clean, unclean, badTag, wrongSize}
 use Rattle.subtag.specs.Subtags.{PlainBytes, PlainTag}
@@ -29,7 +29,7 @@ unfolding separator
 hyphen = refl
 
 pub led-begins : (ts : List Tag) → Led (led ts)
-unfolding Led led split label
+unfolding Led led split headTag
 led-begins [] = refl
 led-begins (t ∷ ts) = label-sep 45 (t ++ led ts) hyphen
 

@@ -9,7 +9,7 @@ use lib.Dec.{leb}
 use lib.ListN.{length, getD, take, drop, length-append, length-drop}
 use lib.Seq.{drop-drop, take-at, length-take-le, drop-cons}
 use borrow.Author.Tests.{leb-true}
-use Rattle.standard.specs.Tag.{Tag, label}
+use Rattle.standard.specs.Tag.{Tag, headTag}
 use Rattle.standard.specs.Grammar.{aScript, aRegion, isVariant, isSingleton, Groups, grouped, flat, only}
 use Rattle.standard.specs.Identifier.{Identifier, part, parts}
 use Rattle.standard.specs.Reading.{optional, split, noBytes, tooLong, unclean, badTag, wrongSize, start, partFault, isX, upTo, from, noLanguage, grammarFault, faultOf, find, afterFirst, identifierOf}
@@ -113,7 +113,7 @@ accepted x e =
 
 -- the first subtag, and the others of the language part
 abbrev pub firstTag : List ℕ → Tag
-firstTag x = label ((grouped isSingleton (upTo isX (split x))) .before)
+firstTag x = headTag ((grouped isSingleton (upTo isX (split x))) .before)
 
 abbrev pub otherTags : List ℕ → List Tag
 otherTags x = afterFirst ((grouped isSingleton (upTo isX (split x))) .before)
@@ -139,9 +139,9 @@ module _ (x : List ℕ) (a : Accepted x) where
   pub before-is : G .before ≡ firstTag x ∷ otherTags x
   before-is = has-first (G .before) (a .language)
 
-  pub first-is : label (split x) ≡ firstTag x
-  unfolding label
-  first-is = ap label tags-are
+  pub first-is : headTag (split x) ≡ firstTag x
+  unfolding headTag
+  first-is = ap headTag tags-are
 
   after-is : afterFirst (split x) ≡ otherTags x ++ (flat (G .groups) ++ from isX (split x))
   unfolding afterFirst

@@ -9,7 +9,7 @@ use native.Mathlib.Omega.{arith}
 use lib.ListN.{length, take, length-map, length-append}
 use lib.Seq.{length-take-le, sets}
 use Rattle.reader.specs.declared.Parts.{Parts as ReaderParts}
-use Rattle.standard.specs.Tag.{Tag, same, label}
+use Rattle.standard.specs.Tag.{Tag, same, headTag}
 use Rattle.standard.specs.Grammar.{title, upper, aScript, aRegion, isLanguage, languageSize, sizeOf}
 use Rattle.standard.specs.Identifier.{Identifier, Three, three, und, part}
 use Rattle.standard.specs.Reading.{optional, split, root, find, coreOf, identifierOf, faultOf}
@@ -115,8 +115,8 @@ language-filled (b ∷ t) e h = omega arith
 root-filled : (t : Tag) → same t root ≡ true → length t ≡ 0 → ⊥
 root-filled t e h = omega (arith, ap length (same-eq t root e))
 
-label-small : (ts : List Tag) → Plain ts → length (label ts) ≤ 8
-unfolding Plain PlainTag label
+label-small : (ts : List Tag) → Plain ts → length (headTag ts) ≤ 8
+unfolding Plain PlainTag headTag
 label-small [] h = omega arith
 label-small (t ∷ ts) h = h .0 .1
 
@@ -231,12 +231,12 @@ module _ (x : List ℕ) (a : Accepted x) where
       let q : s ≡ Script = e ∙ rw (f, g, startOf) in
       rw (core-script (firstTag x) (otherTags x) f g) (record { language = λ z. not-script (sym z ∙ q); fits = λ z. not-script (sym z ∙ q); small = λ z. not-script (sym z ∙ q); script = λ _. refl; root = λ _. refl })
 
-  pub begins : (s : Start) → s ≡ startOf (label (split x)) → Begins x c (i .core) s
+  pub begins : (s : Start) → s ≡ startOf (headTag (split x)) → Begins x c (i .core) s
   begins s e = rw core-is (begin-core (p .core) s (e ∙ ap startOf (first-is x a)))
 
 -- what the reader's answer says
 pub record Reads (x : List ℕ) (q : ReaderParts) : Type 0 where
-  pub start : q .start ≡ startOf (label (split x))
+  pub start : q .start ≡ startOf (headTag (split x))
   pub language : q .language ≡ (cutsOf (split x)) .language
   pub script : q .script ≡ (cutsOf (split x)) .script
   pub region : q .region ≡ (cutsOf (split x)) .region

@@ -5,7 +5,7 @@ use Prim.Native.Nat.{ℕ, _+_, _-_, _≤_, _<_}
 use native.Mathlib.Omega.{arith}
 use lib.ListN.{length, take, drop, length-append}
 use lib.Seq.{sets, length-sets, take-at}
-use Rattle.standard.specs.Tag.{Tag, label, pick}
+use Rattle.standard.specs.Tag.{Tag, headTag, pick}
 use Rattle.standard.specs.Reading.{split, afterFirst}
 use Rattle.standard.specs.Table.{variantKey}
 use Rattle.subtag.specs.declared.Subtag.{Subtag}
@@ -20,8 +20,8 @@ use Rattle.arranging.proofs.Picks.{Stepped, stepped}
 use Rattle.arranging.proofs.Pending.{map-take}
 
 -- the bytes of the subtag at the front
-pub front-tidy : (y : List ℕ) (n : ℕ) → n ≡ length (label (split y)) → map tidyByte (take n y) ≡ label (split y)
-front-tidy y n e = map-take tidyByte n y ∙ ap (take n) (tidied y) ∙ take-at (label (split y)) (led (afterFirst (split y))) n (sym e)
+pub front-tidy : (y : List ℕ) (n : ℕ) → n ≡ length (headTag (split y)) → map tidyByte (take n y) ≡ headTag (split y)
+front-tidy y n e = map-take tidyByte n y ∙ ap (take n) (tidied y) ∙ take-at (headTag (split y)) (led (afterFirst (split y))) n (sym e)
 
 pick-none : (t : Tag) → pick t [] ≡ t
 unfolding pick
@@ -48,9 +48,9 @@ resolving-done A s out₀ at out end w h =
     (omega (arith, w .ends, ap length e), ap (sets out end) (sym e) ∙ w .holds)
 
 module _ (A s out₀ : List ℕ) (at : ℕ) (out : List ℕ) (end : ℕ) (w : Resolving A s out₀ at out end) (h : at < length s)
-    (r : Subtag) (e : r ≡ subtagOf (label (split (take (length s - (at + 1)) (drop (at + 1) s))))) where
+    (r : Subtag) (e : r ≡ subtagOf (headTag (split (take (length s - (at + 1)) (drop (at + 1) s))))) where
   abbrev t : Tag
-  t = label (split (drop (at + 1) s))
+  t = headTag (split (drop (at + 1) s))
 
   st : Stepped s at r
   st = stepped s at r h (w .begins) e

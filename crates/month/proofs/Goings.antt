@@ -14,7 +14,7 @@ use Rattle.standard.specs.Tag.{Tag}
 use Rattle.standard.specs.Identifier.{Tables}
 use Rattle.standard.specs.Delivery.{Bytes}
 use Rattle.billing.specs.Order.{Reordered, kept, swapped, again}
-use Rattle.billing.specs.Bill.{Usage, usage, accepted, usages, refusing, refusals, keysOf, more, bill, none-made, mostKeys, mostLines, billOf}
+use Rattle.billing.specs.Bill.{Usage, usage, accepted, usages, refusing, refusals, keysOf, more, bill, refusedWith, mostKeys, mostLines, billOf}
 use Rattle.billing.proofs.Keys.{elem, different, sorted-length}
 use Rattle.billing.proofs.Orders.{reordered-refl, keys-order, usages-order, refusals-order, length-order}
 use Rattle.ledger.specs.Entries.{Entry, addTo}
@@ -124,7 +124,7 @@ module _ (T : Tables) (ls : List Bytes) (c : Counts) (ks : Bytes) (cs : List ℕ
   unfolding Good only billOf mostLines mostKeys
   line-18 h = inr (record { number = omega arith; alone = refl; bill = λ ms. by ms })
     where
-      by : (ms : List Bytes) → billOf T ((ls ++ (l ∷ [])) ++ ms) ≡ none-made 18
+      by : (ms : List Bytes) → billOf T ((ls ++ (l ∷ [])) ++ ms) ≡ refusedWith 18
       by ms =
           let n : 1000000 ≡ length ls = omega (arith, g .lines, g .most-lines) in
           let a : take 1000000 ((ls ++ (l ∷ [])) ++ ms) ≡ ls = ap (take 1000000) (append-assoc ls (l ∷ []) ms) ∙ ap (λ (k : ℕ). take k (ls ++ (l ∷ ms))) n ∙ take-append-seam ls (l ∷ ms) in
@@ -170,7 +170,7 @@ module _ (T : Tables) (ls : List Bytes) (c : Counts) (ks : Bytes) (cs : List ℕ
     unfolding Good only billOf mostLines mostKeys
     line-17 h k = inr (record { number = omega arith; alone = refl; bill = λ ms. by ms })
       where
-        by : (ms : List Bytes) → billOf T ((ls ++ (l ∷ [])) ++ ms) ≡ none-made 17
+        by : (ms : List Bytes) → billOf T ((ls ++ (l ∷ [])) ++ ms) ≡ refusedWith 17
         by ms =
             let ns = ls ++ (l ∷ []) in
             let n : r ≡ length (keysOf (usages T ns)) = a .count ∙ ap length with-it ∙ entries-length (usages T (reverseAux ns [])) ∙ ap length (keys-order (usages-order T (back-reordered ns))) in

@@ -7,7 +7,7 @@ use Prim.Native.Nat.{ℕ, zero, suc, _+_, _≤_}
 use lib.ListN.{length, take}
 use Rattle.standard.specs.Identifier.{Tables}
 use Rattle.standard.specs.Delivery.{Bytes}
-use Rattle.billing.specs.Bill.{Usage, usages, refusals, none-made, billOf}
+use Rattle.billing.specs.Bill.{Usage, usages, refusals, refusedWith, billOf}
 use Rattle.ledger.specs.Places.{entriesFrom}
 use Rattle.ledger.specs.Ledger.{entriesOf}
 use Rattle.month.specs.declared.Counts.{Counts}
@@ -49,7 +49,7 @@ pub record Going (T : Tables) (ls : List Bytes) (c : Counts) (ks : Bytes) (cs : 
 pub record Stopped (T : Tables) (ls : List Bytes) (c : Counts) : Type 0 where
   pub number : 15 ≤ c .number
   pub alone : c ≡ only (c .number) 0 0
-  pub bill : (ms : List Bytes) → billOf T (ls ++ ms) ≡ none-made (c .number)
+  pub bill : (ms : List Bytes) → billOf T (ls ++ ms) ≡ refusedWith (c .number)
 
 unfoldable pub Good : Tables → List Bytes → Counts → Bytes → List ℕ → Type 0
 Good T ls c ks cs = Going T ls c ks cs ⊎ Stopped T ls c

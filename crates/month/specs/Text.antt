@@ -9,7 +9,7 @@ use lib.ListN.{length}
 use Rattle.standard.specs.Delivery.{Bytes}
 use Rattle.standard.specs.Table.{TableFault, tablesOf, check}
 use Rattle.fields.specs.Fields.{decimal, field, tableText}
-use Rattle.billing.specs.Bill.{Row, Bill, bill, none-made, billOf}
+use Rattle.billing.specs.Bill.{Row, Bill, bill, refusedWith, billOf}
 use Rattle.ledger.specs.Entries.{Entry}
 use Rattle.ledger.specs.Places.{entriesFrom}
 use Rattle.month.specs.declared.Counts.{Counts}
@@ -33,7 +33,7 @@ lastText n = field (45 ∷ []) 9 ++ (field (48 ∷ []) 9 ++ field (decimal n) 10
 -- 02, T-01: a bill refused with 17 or 18 prints only that number, as a line.
 unfoldable pub billText : Bill → Bytes
 billText (bill rs n) = header ++ (rowsText rs ++ lastText n)
-billText (none-made n) = field (decimal n) 10
+billText (refusedWith n) = field (decimal n) 10
 
 -- 02, T-01: one with bad tables only the `table` line of `keys`
 unfoldable pub afterTables : Option TableFault → Bytes → Bytes

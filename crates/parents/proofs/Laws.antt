@@ -14,7 +14,7 @@ use Rattle.standard.specs.Grammar.{flat, title, upper, aScript, aRegion, isLang
 use Rattle.standard.specs.Identifier.{Three, three, und, Identifier, Tables}
 use Rattle.standard.specs.Reading.{optional, rest, tags, joined, print}
 use Rattle.standard.specs.Delivery.{Bytes}
-use Rattle.standard.specs.Chain.{Line, line, allButLast, shorter, parentOf, parent, isRoot, chain}
+use Rattle.standard.specs.Chain.{Line, line, allButLast, shorter, parentOf, parent, isUndAlone, chain}
 use Rattle.standard.specs.Table.{lookup, rows, parse, parsed, printThree, tablesOf, check}
 use Rattle.standard.specs.Make.{identifier, printLine}
 use Rattle.standard.proofs.Tags.{All, Ascending, same-eq}
@@ -209,20 +209,20 @@ module _ (A L P : Bytes) (pass : check true true A L P ≡ none) where
       go [] = refl
       go (v ∷ vs) = but-length v vs ∙ omega arith
 
-  root-text : (l : Line) → Plain l → same (printLine l) und ≡ isRoot l
-  unfolding isRoot same order present
+  root-text : (l : Line) → Plain l → same (printLine l) und ≡ isUndAlone l
+  unfolding isUndAlone same order present
   root-text l h =
-      bool-cases (isRoot l) (λ e. ap (λ (x : Bytes). same x und) (root-printed l e) ∙ sym e)
+      bool-cases (isUndAlone l) (λ e. ap (λ (x : Bytes). same x und) (root-printed l e) ∙ sym e)
       (λ e. bool-cases (same (printLine l) und)
       (λ f. let q = print-injective T (parents-shaped A L P ok) l rootLine h root-plain (same-eq (printLine l) und f ∙ sym (root-printed rootLine refl)) in
-      clash {b = isRoot rootLine} refl (ap isRoot (sym q) ∙ e))
+      clash {b = isUndAlone rootLine} refl (ap isUndAlone (sym q) ∙ e))
       (λ f. f ∙ sym e))
 
   pub chain-text : (n : ℕ) (l : Line) → Plain l → map printLine (chain T n l) ≡ chainText P n (length (l .variants)) (printLine l)
   unfolding chain chainText
   chain-text zero l h = refl
   chain-text (suc n) l h =
-      go (isRoot l) (chain-text n (parent T l) (parent-plain T (parents-shaped A L P ok) l h))
+      go (isUndAlone l) (chain-text n (parent T l) (parent-plain T (parents-shaped A L P ok) l h))
       ∙ (ap (λ (b : Bool). lines b (length ((parent T l) .variants)) (printLine (parent T l))) (sym (root-text l h))
       ∙ (ap (λ (m : ℕ). lines (same (printLine l) und) m (printLine (parent T l))) (parent-count l) ∙ ap (lines (same (printLine l) und) (length (l .variants) - 1)) (parent-text l h)))
     where

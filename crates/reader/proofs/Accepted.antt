@@ -9,7 +9,7 @@ use Prim.Native.Nat.{ℕ, suc, _+_, _-_, _≤_, _<_}
 use native.Mathlib.Omega.{arith}
 use lib.ListN.{length, drop, length-drop, length-append}
 use lib.Seq.{drop-drop}
-use Rattle.standard.specs.Tag.{Tag, same, label}
+use Rattle.standard.specs.Tag.{Tag, same, headTag}
 use Rattle.standard.specs.Grammar.{Kind, aScript, aRegion, aVariant, aNone, kindOf, isLanguage, isVariant, isSingleton, flat, only}
 use Rattle.standard.specs.Identifier.{three, part, parts}
 use Rattle.standard.specs.Reading.{noBytes, tooLong, unclean, badTag, wrongSize, optional, split, root, start, partFault, noLanguage, isX, upTo, from, grammarFault, faultOf, find, coreOf, afterFirst, identifierOf}
@@ -35,7 +35,7 @@ use Rattle.reader.proofs.Outcomes.{fine}
 
 -- A subtag at a place.
 pub record Place (x : List ℕ) (at : ℕ) (t : Tag) : Type 0 where
-  pub is : label (split (drop at x)) ≡ t
+  pub is : headTag (split (drop at x)) ≡ t
   pub short : length t ≤ 8
   pub fits : at ≤ length x
 
@@ -46,25 +46,25 @@ all-at (w ∷ u) t v a = all-at u t v (a .1)
 
 -- more than one subtag is longer than the first
 longer : (x : List ℕ) (w : Tag) (us : List Tag) (t : Tag) (v : List Tag) → split x ≡ w ∷ (us ++ (t ∷ v)) → length w < length x
-unfolding label
+unfolding headTag
 longer x w us t v e =
-    ⊎-elim (λ h. let f = ap length (split-end x (rw (ap label e) h)) in let g = ap length e in absurd (omega (arith, length-append us (t ∷ v)))) (λ h. h) (le-or-lt (length x) (length w))
+    ⊎-elim (λ h. let f = ap length (split-end x (rw (ap headTag e) h)) in let g = ap length e in absurd (omega (arith, length-append us (t ∷ v)))) (λ h. h) (le-or-lt (length x) (length w))
 
 tail-is : (w w′ : Tag) (us vs : List Tag) → w ∷ us ≡ w′ ∷ vs → us ≡ vs
 tail-is w w′ us vs e = cc
 
 pub place-from : (u : List Tag) (t : Tag) (v : List Tag) (x : List ℕ) → split x ≡ u ++ (t ∷ v) → length t ≤ 8 → Place x (parts u) t
-unfolding parts label
-place-from [] t v x e h = record { is = ap label e; short = h; fits = omega arith }
+unfolding parts headTag
+place-from [] t v x e h = record { is = ap headTag e; short = h; fits = omega arith }
 place-from (w ∷ u) t v x e h =
-    let l : label (split x) ≡ w = ap label e in
+    let l : headTag (split x) ≡ w = ap headTag e in
     let n = longer x w u t v e in
     let f = split-next x (rw l n) in
     let y : split (drop (suc (length w)) x) ≡ u ++ (t ∷ v) = rw l at (tail-is _ _ _ _ (sym f ∙ e)) in
     let p = place-from u t v (drop (suc (length w)) x) y h in
     let d = drop-drop (parts u) (suc (length w)) x in
     let k = rw length-drop at (p .fits) in
-    record { is = ap (λ (z : List ℕ). label (split z)) (sym d) ∙ p .is; short = h; fits = omega arith }
+    record { is = ap (λ (z : List ℕ). headTag (split z)) (sym d) ∙ p .is; short = h; fits = omega arith }
 
 -- Without a fault.
 pub record Accepted (x : List ℕ) : Type 0 where
@@ -113,8 +113,8 @@ all-tags ts =
     sym (upTo-from isX ts) ∙ ap (λ (a : List Tag). a ++ from isX ts) (sym (grouped-flat isSingleton (upTo isX ts)))
     ∙ append-assoc (body ts) (flat (heads ts)) (from isX ts)
 
-pub has-first : (b : List Tag) → noLanguage b ≡ none → b ≡ label b ∷ afterFirst b
-unfolding noLanguage label afterFirst
+pub has-first : (b : List Tag) → noLanguage b ≡ none → b ≡ headTag b ∷ afterFirst b
+unfolding noLanguage headTag afterFirst
 has-first [] e = absurd (Option·some-ne-none _ e)
 has-first (t ∷ b) e = refl
 
@@ -136,7 +136,7 @@ later-is x u [] v from to a e f g =
 later-is x u (b ∷ bs) v from to a e f g =
     let w = all-at u (b ∷ bs) v (subst (λ (ts : List Tag). All Fine ts) e a) in
     let p = place-from u (b ∷ bs) v x e (w .plain .1) in
-    let i : label (split (drop (from + 1) x)) ≡ b ∷ bs = ap (λ (n : ℕ). label (split (drop n x))) (sym f) ∙ p .is in
+    let i : headTag (split (drop (from + 1) x)) ≡ b ∷ bs = ap (λ (n : ℕ). headTag (split (drop n x))) (sym f) ∙ p .is in
     record { fits = record { fits = λ h. let k = p .fits in omega arith; short = λ h. rw i (p .short) }; word = λ n. rw (lt-ltb from to (omega arith), laterWord) (ap (raised n) i); short = p .short }
 
 pub others-of : (t : Tag) (ts : List Tag) → Core t ts → Others ts
@@ -150,8 +150,8 @@ pub record Named (x : List ℕ) (p : Parts) : Type 0 where
   pub first : Tag
   pub others : List Tag
   pub core : Core first others
-  pub front : label (split x) ≡ first
-  pub front-short : length (label (split x)) ≤ 8
+  pub front : headTag (split x) ≡ first
+  pub front-short : length (headTag (split x)) ≤ 8
   pub start : p .start ≡ startOf first
   pub three : (identifierOf (split x)) .core ≡ coreOf (first ∷ others)
   pub script : isLanguage first ≡ true → Later x (p .language) (p .script) (find aScript others)
@@ -162,11 +162,11 @@ unfolding languageCut
 language-cut t e = rw (e, languageCut)
 
 pub named : (x : List ℕ) (p : Parts) → faultOf x ≡ none → p ≡ partsOf (split x) → Named x p
-unfolding partsOf cutsOf cutsAfter body identifierOf label PlainTag parts
+unfolding partsOf cutsOf cutsAfter body identifierOf headTag PlainTag parts
 named x p e q =
     let a = accepted x e in
     let b = body (split x) in
-    let t = label b in
+    let t = headTag b in
     let o = afterFirst b in
     let s = find aScript o in
     let r = find aRegion o in
@@ -177,7 +177,7 @@ named x p e q =
     let w = all-at [] t (o ++ more) (subst (λ (ts : List Tag). All Fine ts) tags (a .fine-tags)) in
     let y : o ++ more ≡ optional s ++ (optional r ++ (only isVariant o ++ more)) =
     ap (λ (z : List Tag). z ++ more) (others-of t o c) ∙ append-assoc (optional s) (optional r ++ only isVariant o) more ∙ ap (_++_ (optional s)) (append-assoc (optional r) (only isVariant o) more) in
-    let g : label (split x) ≡ t = ap label tags in
+    let g : headTag (split x) ≡ t = ap headTag tags in
     let ps : p .script ≡ length t + part s = ap (λ (z : Parts). z .script) q in
     let pr : p .region ≡ length t + part s + part r = ap (λ (z : Parts). z .region) q in
     let pl : p .language ≡ languageCut t = ap (λ (z : Parts). z .language) q in

@@ -10,7 +10,7 @@ use lib.Dec.{eqb}
 use lib.ListN.{length, getD, take, drop, length-set, drop-of-length-le}
 use lib.Seq.{drop-cons, take-suc-set, length-take-le, getD-take}
 use borrow.Author.Tests.{eq-eqb, ne-eqb}
-use Rattle.standard.specs.Tag.{Tag, label}
+use Rattle.standard.specs.Tag.{Tag, headTag}
 use Rattle.standard.specs.Reading.{split, afterFirst}
 use Rattle.subtag.specs.declared.Subtag.{Subtag}
 use Rattle.subtag.specs.Subtags.{firstByte, keyOf, subtagOf}
@@ -31,7 +31,7 @@ use Rattle.reader.specs.Steps.{nextFrom, among, ended, steps, stepsOf}
 
 -- the subtag at a place, and those behind it
 abbrev pub here : List ℕ → ℕ → Tag
-here s at = label (split (drop at s))
+here s at = headTag (split (drop at s))
 
 abbrev behind : List ℕ → ℕ → List Tag
 behind s at = afterFirst (split (drop at s))
@@ -44,7 +44,7 @@ pub record Told (s : List ℕ) (at : ℕ) (t : Subtag) (st n : State) (v : Verdi
   pub next : nextFrom st (subtagOf (here s at)) ≡ n
   pub verdict : verdictOf n ≡ v
 
-pub told : (s : List ℕ) (at : ℕ) (t : Subtag) (st n : State) (v : Verdict) → t ≡ subtagOf (label (split (take (length s - at) (drop at s)))) → n ≡ nextFrom st t → v ≡ verdictOf n → Told s at t st n v
+pub told : (s : List ℕ) (at : ℕ) (t : Subtag) (st n : State) (v : Verdict) → t ≡ subtagOf (headTag (split (take (length s - at) (drop at s)))) → n ≡ nextFrom st t → v ≡ verdictOf n → Told s at t st n v
 told s at t st n v e f g =
     let j = judged s at t e in
     record { is = j; len-is = judged-len (here s at) t j; len-fits = judged-fits s at t e; next = sym (f ∙ ap (nextFrom st) j); verdict = sym g }

@@ -10,7 +10,7 @@ use native.Mathlib.Omega.{arith}
 use lib.ListN.{length, getD, drop, drop-of-length-le}
 use lib.Seq.{drop-cons}
 use borrow.Author.Tests.{le-leb, lt-leb}
-use Rattle.standard.specs.Tag.{Tag, label}
+use Rattle.standard.specs.Tag.{Tag, headTag}
 use Rattle.standard.specs.Grammar.{small, capital, digit, separator}
 use Rattle.standard.specs.Reading.{Fault, fault, firstOf, noBytes, tooLong, clean, unclean, badTag, wrongSize, split, afterFirst, grammarFault, faultOf}
 use Rattle.standard.proofs.Bytes.{bool-cases, clash}
@@ -73,23 +73,23 @@ unfolding unclean
 byte-end s i h = ap (unclean i) (drop-of-length-le s h)
 
 -- The subtags from a place on.
-module _ (s : List ℕ) (at len : ℕ) (e : len ≡ length (label (split (drop at s)))) where
+module _ (s : List ℕ) (at len : ℕ) (e : len ≡ length (headTag (split (drop at s)))) where
   abbrev Sizes : Option Fault
   Sizes = badTag 4 wrongSize at (split (drop at s))
 
-  pub size-bad : wrongSize (label (split (drop at s))) ≡ true → Sizes ≡ fault 4 at
+  pub size-bad : wrongSize (headTag (split (drop at s))) ≡ true → Sizes ≡ fault 4 at
   unfolding badTag
   size-bad h = ap (badTag 4 wrongSize at) (split-cons (drop at s)) ∙ rw (h, badTag)
 
   pub size-empty : len ≡ 0 → Sizes ≡ fault 4 at
-  size-empty h = size-bad (wrong-empty (label (split (drop at s))) (omega arith))
+  size-empty h = size-bad (wrong-empty (headTag (split (drop at s))) (omega arith))
 
   pub size-long : 8 < len → Sizes ≡ fault 4 at
-  size-long h = size-bad (wrong-long (label (split (drop at s))) (omega arith))
+  size-long h = size-bad (wrong-long (headTag (split (drop at s))) (omega arith))
 
   module _ (h : 0 < len) (k : len ≤ 8) where
-    right : wrongSize (label (split (drop at s))) ≡ false
-    right = right-size (label (split (drop at s))) (omega arith) (omega arith)
+    right : wrongSize (headTag (split (drop at s))) ≡ false
+    right = right-size (headTag (split (drop at s))) (omega arith) (omega arith)
 
     pub size-last : length s - at ≤ len → Sizes ≡ none
     unfolding badTag
@@ -98,7 +98,7 @@ module _ (s : List ℕ) (at len : ℕ) (e : len ≡ length (label (split (drop a
     pub size-next : len < length s - at → Sizes ≡ badTag 4 wrongSize (at + len + 1) (split (drop (at + len + 1) s))
     unfolding badTag
     size-next l =
-        let z : at + suc (length (label (split (drop at s)))) ≡ at + len + 1 = omega arith in
+        let z : at + suc (length (headTag (split (drop at s)))) ≡ at + len + 1 = omega arith in
         ap (badTag 4 wrongSize at) (walk-more s at len e l) ∙ rw (right, badTag) (rw z)
 
 -- Every subtag is of 1 to 8 small letters and digits.
@@ -155,4 +155,4 @@ module _ (x : List ℕ) (h : 0 < length x) (k : length x ≤ 255) where
     outcome-walk f e g =
         let n : badTag 4 wrongSize 0 (split x) ≡ none = sym e ∙ ap (foundAs 4) g in
         let w = walked-steps (split x) (fine (split x) (split-words x 0 c) (none-badTag 4 wrongSize 0 (split x) n)) in
-        rw (in-size, c, n) (w ∙ rw (split-cons x) (sym (walked (label (split x)) (afterFirst (split x)))))
+        rw (in-size, c, n) (w ∙ rw (split-cons x) (sym (walked (headTag (split x)) (afterFirst (split x)))))

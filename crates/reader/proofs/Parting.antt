@@ -6,7 +6,7 @@ use mathlib.Core.Option.{Option, none, some, Option·none-ne-some, Option·some-
 use Prim.Native.Nat.{ℕ, suc, _+_}
 use native.Mathlib.Omega.{arith}
 use lib.ListN.{length}
-use Rattle.standard.specs.Tag.{Tag, same, label}
+use Rattle.standard.specs.Tag.{Tag, same, headTag}
 use Rattle.standard.specs.Grammar.{Kind, aScript, aRegion, aVariant, aNone, sizeOf, kind, kindOf, variantKind, isVariant, isLanguage, isSingleton, isTwo, isFieldKey, uTag, tTag, grouped, flat, only}
 use Rattle.standard.specs.Identifier.{part, parts}
 use Rattle.standard.specs.Reading as reading
@@ -494,16 +494,16 @@ main-law (t ∷ ts) g p singles listed back at r e =
 unfoldable partsBy : Tag → List Tag → List (List Tag) → List Tag → Parts
 partsBy first b hs private = record {
   start = startOf first;
-  language = languageCut (label b);
-  script = length (label b) + scriptPart (afterFirst b);
-  region = length (label b) + scriptPart (afterFirst b) + regionPart (afterFirst b);
-  variants = length (label b) + scriptPart (afterFirst b) + regionPart (afterFirst b) + variantParts (afterFirst b);
-  extensions = length (label b) + scriptPart (afterFirst b) + regionPart (afterFirst b) + variantParts (afterFirst b) + parts (flat hs);
+  language = languageCut (headTag b);
+  script = length (headTag b) + scriptPart (afterFirst b);
+  region = length (headTag b) + scriptPart (afterFirst b) + regionPart (afterFirst b);
+  variants = length (headTag b) + scriptPart (afterFirst b) + regionPart (afterFirst b) + variantParts (afterFirst b);
+  extensions = length (headTag b) + scriptPart (afterFirst b) + regionPart (afterFirst b) + variantParts (afterFirst b) + parts (flat hs);
   «variant_count» = variantCount (afterFirst b);
   «extension_count» = length hs + privateCount private;
 }
 
-parts-by : (ts : List Tag) → partsOf ts ≡ partsBy (label ts) (body ts) (heads ts) (from isX ts)
+parts-by : (ts : List Tag) → partsOf ts ≡ partsBy (headTag ts) (body ts) (heads ts) (from isX ts)
 unfolding partsOf cutsOf cutsAfter partsBy body heads scriptPart regionPart variantParts variantCount identifierOf
 parts-by ts = refl
 
@@ -516,7 +516,7 @@ module _ (t : Tag) (ts : List Tag) (s : isSingleton t ≡ false) (e : walkFault 
       → (cutStage g (0 + length t) unread) .script ≡ length t → (cutStage g (0 + length t) unread) .region ≡ length t → (cutStage g (0 + length t) unread) .«variant_count» ≡ 0
       → (cutStage g (0 + length t) unread) .start ≡ startOf t → (cutStage g (0 + length t) unread) .language ≡ languageCut t
       → walkParts First unread [] 0 (t ∷ ts) ≡ partsOf (t ∷ ts)
-  unfolding afterOther cut verdictOf singlesAfter stageVerdict label afterFirst partsBy behindCount
+  unfolding afterOther cut verdictOf singlesAfter stageVerdict headTag afterFirst partsBy behindCount
   begun g f v r sc re n st la =
       let i : nextState First t ≡ Main g = next-other First t s ∙ f in
       let h = follows First (Main g) unread (cutStage g (0 + length t) unread) [] [] [] 0 0 t ts e i refl (singles-stage g t []) in

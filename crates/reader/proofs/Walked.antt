@@ -8,7 +8,7 @@ use mathlib.Core.Option.{Option, none, some, Option·none-ne-some}
 use Prim.Native.Nat.{ℕ, suc, _+_}
 use native.Mathlib.Omega.{arith}
 use lib.ListN.{length}
-use Rattle.standard.specs.Tag.{Tag, order, same, label}
+use Rattle.standard.specs.Tag.{Tag, order, same, headTag}
 use Rattle.standard.specs.Grammar.{Kind, aScript, aRegion, aVariant, aNone, kindOf, variantKind, isVariant, isLanguage, isSingleton, isTwo, isFieldKey, uTag, tTag, xTag, withTag, grouped, flat}
 use Rattle.standard.specs.Identifier.{parts}
 use Rattle.standard.specs.Reading as reading
@@ -187,7 +187,7 @@ boundary-x st singles listed back at t ts e x nx =
 -- another singleton: the standard's extension that it begins
 behind-head : (singles : List Tag) (at : ℕ) (t : Tag) (ts : List Tag) → isSingleton t ≡ true → isX t ≡ false
     → behind singles at (t ∷ ts) ≡ firstOf (repeated at (member t singles)) (unfinished at (body ts) (firstOf (extensionFault at (t ∷ body ts)) (behind (t ∷ singles) (at + suc (length t) + parts (body ts)) ts)))
-unfolding behind label firstOf unfinished repeated groupsFault alone flat
+unfolding behind headTag firstOf unfinished repeated groupsFault alone flat
 behind-head singles at t ts e f = rw (heads-head t ts e f, from-head t ts e f) (go (member t singles) refl (body ts))
   where
     go : (m : Bool) → member t singles ≡ m → (b : List Tag)
@@ -421,7 +421,7 @@ module _ (t : Tag) (ts : List Tag) (law : Law ts) (s : isSingleton t ≡ false) 
   -- the key of a field: the standard's group that it begins
   keyed : (st : State) (singles listed seen : List Tag) (back at : ℕ) → NoX singles → Agrees listed seen → isFieldKey t ≡ true
       → stepped st singles listed back at t ts Key ≡ firstOf (groupsFault fieldFault seen at ((t ∷ ahead (body ts)) ∷ fields (body ts))) (later singles at)
-  unfolding stepped verdictOf verdictFault singlesAfter listedAfter firstOf Fits expected within closing later fieldsFrom groupsFault label alone fieldFault unfinished repeated
+  unfolding stepped verdictOf verdictFault singlesAfter listedAfter firstOf Fits expected within closing later fieldsFrom groupsFault headTag alone fieldFault unfinished repeated
   keyed st singles listed seen back at nx a f =
       ap (firstOf (repeated at (member t listed))) (law Key singles (t ∷ listed) (t ∷ seen) at (at + suc (length t)) nx (agrees-key t listed seen a))
       ∙ rw (a t f) (go (ahead (body ts)) (member t seen) refl)

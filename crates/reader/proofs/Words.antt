@@ -9,7 +9,7 @@ use native.Mathlib.Omega.{arith}
 use lib.ListN.{length, getD, take, drop, set, length-set}
 use lib.Seq.{take-suc-set}
 use borrow.Author.Tests.{lt-ltb, le-ltb}
-use Rattle.standard.specs.Tag.{Tag, label}
+use Rattle.standard.specs.Tag.{Tag, headTag}
 use Rattle.standard.specs.Grammar.{separator, lowerByte}
 use Rattle.standard.specs.Reading.{split}
 use Rattle.subtag.proofs.Walk.{at-end, at-sep, at-byte, le-or-lt}
@@ -33,7 +33,7 @@ unfolding raised
 raised-none t = refl
 
 abbrev front : List ℕ → Tag
-front s = label (split s)
+front s = headTag (split s)
 
 -- the bytes so far, and those to come
 pub record Wording (s : List ℕ) (n : ℕ) (bytes : List ℕ) (len : ℕ) : Type 0 where

@@ -5,7 +5,7 @@ use mathlib.Core.Bool.{true, false}
 use mathlib.Core.List.{List}
 use Prim.Native.Nat.{ℕ, _+_}
 use lib.ListN.{length}
-use Rattle.standard.specs.Tag.{Tag, same, label}
+use Rattle.standard.specs.Tag.{Tag, same, headTag}
 use Rattle.standard.specs.Grammar.{aScript, aRegion, isLanguage, isVariant, isSingleton, grouped, flat, only}
 use Rattle.standard.specs.Identifier.{part, parts}
 use Rattle.standard.specs.Reading.{isX, upTo, root, find, afterFirst}
@@ -31,4 +31,4 @@ cutsAfter first others behind =
 
 -- of the subtags in lower case
 unfoldable pub cutsOf : List Tag → Cuts
-cutsOf ts = let g = grouped isSingleton (upTo isX ts) in cutsAfter (label (g .before)) (afterFirst (g .before)) (parts (flat (g .groups)))
+cutsOf ts = let g = grouped isSingleton (upTo isX ts) in cutsAfter (headTag (g .before)) (afterFirst (g .before)) (parts (flat (g .groups)))

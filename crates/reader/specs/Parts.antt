@@ -5,7 +5,7 @@ use mathlib.Core.List.{List}
 use mathlib.Core.Option.{Option, none, some}
 use Prim.Native.Nat.{ℕ, _+_}
 use lib.ListN.{length}
-use Rattle.standard.specs.Tag.{Tag, same, label}
+use Rattle.standard.specs.Tag.{Tag, same, headTag}
 use Rattle.standard.specs.Grammar.{isLanguage}
 use Rattle.standard.specs.Reading.{root, Fault, fault, split, faultOf, identifierOf}
 use Rattle.standard.specs.Report.{privateCount}
@@ -28,7 +28,7 @@ partsOf ts =
     let c = cutsOf ts in
     let i = identifierOf ts in
     record {
-      start = startOf (label ts);
+      start = startOf (headTag ts);
       language = c .language;
       script = c .script;
       region = c .region;

@@ -4,7 +4,7 @@ use mathlib.Core.List.{List, []}
 use Prim.Native.Nat.{ℕ, _+_, _≤_, _<_}
 use lib.Dec.{ltb}
 use lib.ListN.{length, take, drop}
-use Rattle.standard.specs.Tag.{Tag, label}
+use Rattle.standard.specs.Tag.{Tag, headTag}
 use Rattle.standard.specs.Reading.{split, bad}
 use Rattle.standard.specs.Report as standard
 use Rattle.subtag.specs.Bytes.{raised}
@@ -34,12 +34,12 @@ pub record Within (r : Report) : Type 0 where
 
 -- the subtag behind a separator at `from`, where a part goes from there to `to`
 unfoldable pub laterWord : ℕ → ℕ → ℕ → List ℕ → Tag
-laterWord n from to x = elim (ltb from to) [ true ↦ raised n (label (split (drop (from + 1) x))) | false ↦ [] ]
+laterWord n from to x = elim (ltb from to) [ true ↦ raised n (headTag (split (drop (from + 1) x))) | false ↦ [] ]
 
 -- it is there and of at most 8 bytes
 pub record LaterFits (from to : ℕ) (x : List ℕ) : Type 0 where
   pub fits : from < to → from + 1 ≤ length x
-  pub short : from < to → length (label (split (drop (from + 1) x))) ≤ 8
+  pub short : from < to → length (headTag (split (drop (from + 1) x))) ≤ 8
 
 -- the report of a refusal
 unfoldable pub refusedReport : ℕ → ℕ → standard.Report

@@ -7,7 +7,7 @@ ghost use mathlib.Core.Option.{none};
 ghost use mathlib.Core.List.{[]};
 ghost use Prim.Native.Nat.{_≤_};
 ghost use lib.ListN.{length};
-ghost use Rattle.standard.specs.Tag.{label};
+ghost use Rattle.standard.specs.Tag.{headTag};
 ghost use Rattle.standard.specs.Identifier.{und as undTag};
 ghost use Rattle.standard.specs.Reading.{split, good, faultOf, identifierOf};
 ghost use Rattle.standard.specs.Report.{report, reportOf};
@@ -33,8 +33,8 @@ pub struct Report {
 
 // The subtag at the front of rest, its first `capitals` bytes as capitals.
 fn word_of(rest: &[u8], capitals: usize) -> Word
-    requires { ⌜ length (label (split (now rest))) ≤ 8 ⌝ }
-    ensures { λ r. ⌜ (wordIs r ≡ raised capitals (label (split (now (rest .entry))))) × (r .len ≤ 8) ⌝ }
+    requires { ⌜ length (headTag (split (now rest))) ≤ 8 ⌝ }
+    ensures { λ r. ⌜ (wordIs r ≡ raised capitals (headTag (split (now (rest .entry))))) × (r .len ≤ 8) ⌝ }
 {
     let mut bytes = [0u8; 8];
     let mut len: usize = 0;

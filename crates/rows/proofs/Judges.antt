@@ -9,7 +9,7 @@ use lib.ListN.{length, take, drop, length-append}
 use Rattle.standard.specs.Tag.{Tag, order, same, present}
 use Rattle.standard.specs.Grammar.{isLanguage}
 use Rattle.standard.specs.Identifier.{Three as Subtags, three, und, zzzz, zz, complete, without, withoutUnknown, sameThree}
-use Rattle.standard.specs.Table.{parse, isUnd, isVariantTag, aliasShape}
+use Rattle.standard.specs.Table.{parse, languageIsUnd, isVariantTag, aliasShape}
 use Rattle.standard.proofs.Tags.{same-eq, same-refl}
 use Rattle.standard.proofs.Bytes.{bool-cases, clash}
 use Rattle.rows.specs.declared.three.Three.{Three}
@@ -147,8 +147,8 @@ module _ (w : Tag) where
   named-variant p a b c d = rw (a, b, c, d)
 
 -- the value of a language alias
-pub und-language : (s : List ℕ) (r : Three) → ThreeAt s r → r .ok ≡ true → isUnd (parse s) ≡ same (take (r .language) s) und
-unfolding isUnd
+pub und-language : (s : List ℕ) (r : Three) → ThreeAt s r → r .ok ≡ true → languageIsUnd (parse s) ≡ same (take (r .language) s) und
+unfolding languageIsUnd
 und-language s r t e = ap (λ (x : Subtags). same (x .language) und) (t .parts e)
 
 -- a language alias

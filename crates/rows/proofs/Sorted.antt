@@ -13,7 +13,7 @@ use Rattle.standard.specs.Tag.{Tag, order, same, onto}
 use Rattle.standard.specs.Grammar.{small, capital, digit, every, isLanguage}
 use Rattle.standard.specs.Identifier.{und}
 use Rattle.standard.specs.Reading.{joined}
-use Rattle.standard.specs.Table.{pieces, rows, keyOf, above, rowsFault, isThree, parse, isUnd, isVariantTag, aliasShape, likelyShape, parentShape}
+use Rattle.standard.specs.Table.{pieces, rows, keyOf, above, rowsFault, isThree, parse, languageIsUnd, isVariantTag, aliasShape, likelyShape, parentShape}
 use Rattle.standard.proofs.Tags.{All, same-eq}
 use Rattle.standard.proofs.Table.{Pass}
 use Rattle.standard.proofs.Bytes.{bool-cases, clash, and-true}
@@ -158,7 +158,7 @@ alias-high : (kind k v : Tag) → shapeBy (kindNamed kind) k v ≡ true → (eve
 unfolding kindNamed shapeBy languageAlias every
 alias-high kind k v e =
     bool-cases (same kind languageName)
-    (λ a. (ap (every high) (same-eq kind languageName a), language-high k ((and-true (isLanguage k) (not (same k und)) ((and-true (isLanguage k && not (same k und)) (isThree v && not (isUnd (parse v))) (rw a at e)) .0)) .0)))
+    (λ a. (ap (every high) (same-eq kind languageName a), language-high k ((and-true (isLanguage k) (not (same k und)) ((and-true (isLanguage k && not (same k und)) (isThree v && not (languageIsUnd (parse v))) (rw a at e)) .0)) .0)))
     (λ a. bool-cases (same kind scriptName) (λ b. (ap (every high) (same-eq kind scriptName b), script-high k ((and-true (isScript k) (isScript v) (rw (a, b) at e)) .0)))
     (λ b. bool-cases (same kind regionName) (λ c. (ap (every high) (same-eq kind regionName c), region-high k ((and-true (isRegion k) (isRegion v) (rw (a, b, c) at e)) .0)))
     (λ c. bool-cases (same kind variantName) (λ d. (ap (every high) (same-eq kind variantName d), variant-high k ((and-true (isVariantTag k) (isVariantTag v) (rw (a, b, c, d) at e)) .0)))

@@ -16,7 +16,7 @@ use Rattle.standard.specs.Tag.{Tag, same, order}
 use Rattle.standard.specs.Grammar.{small, capital, digit, every, isLanguage}
 use Rattle.standard.specs.Identifier.{three, und}
 use Rattle.standard.specs.Reading.{fault}
-use Rattle.standard.specs.Table.{pieces, rowsFault, parse, isThree, isUnd, isVariantTag, likelyShape, parentShape, aliasShape}
+use Rattle.standard.specs.Table.{pieces, rowsFault, parse, isThree, languageIsUnd, isVariantTag, likelyShape, parentShape, aliasShape}
 use Rattle.standard.proofs.Tags.{All}
 use Rattle.standard.proofs.Bytes.{bool-cases, clash, and-true}
 use Rattle.subtag.proofs.Bytes.{small-in, capital-in, digit-in}
@@ -361,7 +361,7 @@ module _ (s : List ℕ) (r : Pair) (f : PairIn s r) where
 -- Alias rows: no value has a tab.
 shape-free : (kind : AliasKind) (k v : Tag) → shapeBy kind k v ≡ true → Free 9 v
 unfolding shapeBy languageAlias
-shape-free Language k v e = three-free 9 (omega arith) v ((and-true (isThree v) (not (isUnd (parse v))) ((and-true (isLanguage k && not (same k und)) (isThree v && not (isUnd (parse v))) e) .1)) .0)
+shape-free Language k v e = three-free 9 (omega arith) v ((and-true (isThree v) (not (languageIsUnd (parse v))) ((and-true (isLanguage k && not (same k und)) (isThree v && not (languageIsUnd (parse v))) e) .1)) .0)
 shape-free Script k v e = above-free 9 (omega arith) v (script-every above small-above capital-above digit-above v ((and-true (isScript k) (isScript v) e) .1))
 shape-free Region k v e = above-free 9 (omega arith) v (region-every above small-above capital-above digit-above v ((and-true (isRegion k) (isRegion v) e) .1))
 shape-free Variant k v e = above-free 9 (omega arith) v (variant-every above small-above capital-above digit-above v ((and-true (isVariantTag k) (isVariantTag v) e) .1))

@@ -8,7 +8,7 @@ use lib.ListN.{length, take, drop}
 use Rattle.standard.specs.Tag.{Tag, same, present}
 use Rattle.standard.specs.Grammar.{isLanguage}
 use Rattle.standard.specs.Identifier.{und, zzzz, zz, complete, withoutUnknown, sameThree}
-use Rattle.standard.specs.Table.{pieces, parse, isThree, isUnd, isVariantTag, aliasShape, likelyShape, parentShape}
+use Rattle.standard.specs.Table.{pieces, parse, isThree, languageIsUnd, isVariantTag, aliasShape, likelyShape, parentShape}
 use Rattle.rows.specs.declared.aliases.Fields.{Fields}
 use Rattle.rows.specs.declared.pairs.Pair.{Pair}
 use Rattle.rows.specs.declared.pairs.Line.{Line}
@@ -53,7 +53,7 @@ kindNamed w =
     pickKind (same w languageName) Language (pickKind (same w scriptName) Script (pickKind (same w regionName) Region (pickKind (same w variantName) Variant Unknown)))
 
 unfoldable pub languageAlias : Tag → Tag → Bool
-languageAlias key value = isLanguage key && not (same key und) && (isThree value && not (isUnd (parse value)))
+languageAlias key value = isLanguage key && not (same key und) && (isThree value && not (languageIsUnd (parse value)))
 
 unfoldable pub shapeBy : AliasKind → Tag → Tag → Bool
 shapeBy Language key value = languageAlias key value

@@ -9,14 +9,14 @@ use Prim.Native.Nat.{ℕ}
 use Prim.Native.String.{String, [] as nil, _∷_ as _::_}
 use Prim.Native.Char.{code}
 use lib.ListN.{length, drop}
-use Rattle.standard.specs.Tag.{order, same, insertBy, sortBy, label, pick, present, replace, onto}
+use Rattle.standard.specs.Tag.{order, same, insertBy, sortBy, headTag, pick, present, replace, onto}
 use Rattle.standard.specs.Grammar.{small, capital, digit, separator, lowerByte, upperByte, every, title, upper, sizeOf, startsWithDigit, oneSize, twoSize, wrongLength, languageSize, isLanguage, kind, kindOf, variantKind, isVariant, isSingleton, isTwo, isKeywordKey, isFieldKey, withTag, grouped, flat, only, others, dropTrue, arrangeKeywords, arrangePart, arrangeFields, arrangeOne, arrange}
 use Rattle.standard.specs.Identifier.{languageAlias, aliased, canonicalVariants, canonicalForm, without, withoutUnknown, complete, orElse, row, over, overRow, maximalThree, trial, sameThree, hasThree, minimalThree, part, parts, size, bounded, withThree, filled, then, canonical, maximised, minimised}
 use Rattle.standard.specs.Reading.{optional, rest, tags, joined, print, split, firstOf, noBytes, tooLong, clean, unclean, badTag, wrongSize, member, accept, restFault, start, languageOnly, partFault, alone, groupsFault, wrongKeyword, wrongValue, fieldFault, fieldsFault, extensionFault, privateFault, isX, upTo, from, noLanguage, grammarFault, faultOf, ofKind, find, coreOf, afterFirst, identifierOf, readAs, read}
 use Rattle.standard.specs.Report.{Report, privateCount, reportOf, report}
 use Rattle.standard.specs.Delivery.{Bytes, Given, given}
-use Rattle.standard.specs.Chain.{allButLast, shorter, parentOf, parent, isRoot, chain, reaches}
-use Rattle.standard.specs.Table.{TableFault, Found, pieces, after, lookup, rows, locatedFrom, located, lower, inCanonicalCase, findInCase, threeOf, parse, printThree, isThree, parsed, tablesOf, isWord, isUnd, isVariantTag, aliasShape, likelyShape, parentShape, isNone, unaliased, aliasFree, likelyFree, parentFree, keyOf, above, rowsFault, clashFault, tooBig, inTable, firstTable, check}
+use Rattle.standard.specs.Chain.{allButLast, shorter, parentOf, parent, isUndAlone, chain, reaches}
+use Rattle.standard.specs.Table.{TableFault, Found, pieces, after, lookup, rows, locatedFrom, located, lower, inCanonicalCase, findInCase, threeOf, parse, printThree, isThree, parsed, tablesOf, isWord, languageIsUnd, isVariantTag, aliasShape, likelyShape, parentShape, isNone, unaliased, aliasFree, likelyFree, parentFree, keyOf, above, rowsFault, clashFault, tooBig, inTable, firstTable, check}
 use Rattle.standard.specs.Make.{operate, made, makeOf, make, identifier, printLine, listing, chainOf, listed, chainMade, chainFrom, afterCheck, canonicaliseMade, maximiseMade, minimiseMade, listMade, checkMade}
 
 -- the bytes of a text
@@ -165,10 +165,10 @@ cases =
     []
 
 pub cases-hold : map got cases ≡ map want cases
-unfolding bytes table aliases likely parents lent refuses written expected want got cases given privateCount reportOf report locatedFrom located order same insertBy sortBy label pick present replace onto small capital digit separator lowerByte upperByte every title upper sizeOf startsWithDigit oneSize twoSize wrongLength languageSize isLanguage kind kindOf variantKind isVariant isSingleton isTwo isKeywordKey isFieldKey withTag grouped flat only others dropTrue arrangeKeywords arrangePart arrangeFields arrangeOne arrange languageAlias aliased canonicalVariants canonicalForm without withoutUnknown complete orElse row over overRow maximalThree trial sameThree hasThree minimalThree part parts size bounded withThree filled then canonical maximised minimised optional rest tags joined print split firstOf noBytes tooLong clean unclean badTag wrongSize member accept restFault start languageOnly partFault alone groupsFault wrongKeyword wrongValue fieldFault fieldsFault extensionFault privateFault isX upTo from noLanguage grammarFault faultOf ofKind find coreOf afterFirst identifierOf readAs read allButLast shorter parentOf parent isRoot chain reaches pieces after lookup rows lower inCanonicalCase findInCase threeOf parse printThree isThree parsed tablesOf isWord isUnd isVariantTag aliasShape likelyShape parentShape isNone unaliased aliasFree likelyFree parentFree keyOf above rowsFault clashFault tooBig inTable firstTable check operate made makeOf make identifier printLine listing chainOf listed chainMade chainFrom afterCheck canonicaliseMade maximiseMade minimiseMade listMade checkMade
+unfolding bytes table aliases likely parents lent refuses written expected want got cases given privateCount reportOf report locatedFrom located order same insertBy sortBy headTag pick present replace onto small capital digit separator lowerByte upperByte every title upper sizeOf startsWithDigit oneSize twoSize wrongLength languageSize isLanguage kind kindOf variantKind isVariant isSingleton isTwo isKeywordKey isFieldKey withTag grouped flat only others dropTrue arrangeKeywords arrangePart arrangeFields arrangeOne arrange languageAlias aliased canonicalVariants canonicalForm without withoutUnknown complete orElse row over overRow maximalThree trial sameThree hasThree minimalThree part parts size bounded withThree filled then canonical maximised minimised optional rest tags joined print split firstOf noBytes tooLong clean unclean badTag wrongSize member accept restFault start languageOnly partFault alone groupsFault wrongKeyword wrongValue fieldFault fieldsFault extensionFault privateFault isX upTo from noLanguage grammarFault faultOf ofKind find coreOf afterFirst identifierOf readAs read allButLast shorter parentOf parent isUndAlone chain reaches pieces after lookup rows lower inCanonicalCase findInCase threeOf parse printThree isThree parsed tablesOf isWord languageIsUnd isVariantTag aliasShape likelyShape parentShape isNone unaliased aliasFree likelyFree parentFree keyOf above rowsFault clashFault tooBig inTable firstTable check operate made makeOf make identifier printLine listing chainOf listed chainMade chainFrom afterCheck canonicaliseMade maximiseMade minimiseMade listMade checkMade
 cases-hold = refl
 
 -- document 01's tables pass, so that demand 3 holds of something
 pub tables-pass : Path (Option TableFault) (check true true aliases likely parents) none
-unfolding bytes table aliases likely parents order same insertBy sortBy label pick present replace onto small capital digit separator lowerByte upperByte every title upper sizeOf startsWithDigit oneSize twoSize wrongLength languageSize isLanguage kind kindOf variantKind isVariant isSingleton isTwo isKeywordKey isFieldKey withTag grouped flat only others dropTrue arrangeKeywords arrangePart arrangeFields arrangeOne arrange languageAlias aliased canonicalVariants canonicalForm without withoutUnknown complete orElse row over overRow maximalThree trial sameThree hasThree minimalThree part parts size bounded withThree filled then canonical maximised minimised optional rest tags joined print split firstOf noBytes tooLong clean unclean badTag wrongSize member accept restFault start languageOnly partFault alone groupsFault wrongKeyword wrongValue fieldFault fieldsFault extensionFault privateFault isX upTo from noLanguage grammarFault faultOf ofKind find coreOf afterFirst identifierOf readAs read allButLast shorter parentOf parent isRoot chain reaches pieces after lookup rows lower inCanonicalCase findInCase threeOf parse printThree isThree parsed tablesOf isWord isUnd isVariantTag aliasShape likelyShape parentShape isNone unaliased aliasFree likelyFree parentFree keyOf above rowsFault clashFault tooBig inTable firstTable check operate made makeOf make identifier printLine listing chainOf listed chainMade chainFrom afterCheck canonicaliseMade maximiseMade minimiseMade listMade checkMade
+unfolding bytes table aliases likely parents order same insertBy sortBy headTag pick present replace onto small capital digit separator lowerByte upperByte every title upper sizeOf startsWithDigit oneSize twoSize wrongLength languageSize isLanguage kind kindOf variantKind isVariant isSingleton isTwo isKeywordKey isFieldKey withTag grouped flat only others dropTrue arrangeKeywords arrangePart arrangeFields arrangeOne arrange languageAlias aliased canonicalVariants canonicalForm without withoutUnknown complete orElse row over overRow maximalThree trial sameThree hasThree minimalThree part parts size bounded withThree filled then canonical maximised minimised optional rest tags joined print split firstOf noBytes tooLong clean unclean badTag wrongSize member accept restFault start languageOnly partFault alone groupsFault wrongKeyword wrongValue fieldFault fieldsFault extensionFault privateFault isX upTo from noLanguage grammarFault faultOf ofKind find coreOf afterFirst identifierOf readAs read allButLast shorter parentOf parent isUndAlone chain reaches pieces after lookup rows lower inCanonicalCase findInCase threeOf parse printThree isThree parsed tablesOf isWord languageIsUnd isVariantTag aliasShape likelyShape parentShape isNone unaliased aliasFree likelyFree parentFree keyOf above rowsFault clashFault tooBig inTable firstTable check operate made makeOf make identifier printLine listing chainOf listed chainMade chainFrom afterCheck canonicaliseMade maximiseMade minimiseMade listMade checkMade
 tables-pass = refl

@@ -9,7 +9,7 @@ use Prim.Native.Nat.{ℕ, suc, _+_, _≤_, _<_}
 use native.Mathlib.Omega.{arith}
 use lib.Dec.{leb}
 use lib.ListN.{length}
-use Rattle.standard.specs.Tag.{Tag, same, label}
+use Rattle.standard.specs.Tag.{Tag, same, headTag}
 use Rattle.standard.specs.Grammar.{grouped, uTag, tTag, isSingleton, isFieldKey, kindOf, isVariant}
 use Rattle.standard.specs.Identifier.{Identifier, Tables, Answer, done, refused, bounded, size, filled, then, canonical, maximised, minimised, withThree, Three, parts}
 use Rattle.standard.specs.Reading.{Fault, firstOf, noBytes, tooLong, clean, unclean, badTag, wrongSize, member, Stage, accept, restFault, start, languageOnly, partFault, alone, groupsFault, wrongKeyword, wrongValue, fieldFault, fieldsFault, extensionFault, privateFault, isX, upTo, from, noLanguage, grammarFault, faultOf, split, Read, good, bad, readAs, read, identifierOf}
@@ -74,13 +74,13 @@ groups-within : (inner : ℕ → List Tag → Option Fault) → ((n : ℕ) (g : 
     → (seen : List Tag) (at : ℕ) (gs : List (List Tag)) → Within 1 7 (groupsFault inner seen at gs)
 unfolding groupsFault Within
 groups-within inner h seen at [] = tt
-groups-within inner h seen at (g ∷ gs) = go (member (label g) seen) (alone g) (groups-within inner h (label g ∷ seen) (at + parts g) gs)
+groups-within inner h seen at (g ∷ gs) = go (member (headTag g) seen) (alone g) (groups-within inner h (headTag g ∷ seen) (at + parts g) gs)
   where
-    go : (a b : Bool) → Within 1 7 (groupsFault inner (label g ∷ seen) (at + parts g) gs)
-        → Within 1 7 (elim a [ true ↦ some (record { number = 6; place = at }) | false ↦ elim b [ true ↦ some (record { number = 7; place = at }) | false ↦ firstOf (inner at g) (groupsFault inner (label g ∷ seen) (at + parts g) gs) ] ])
+    go : (a b : Bool) → Within 1 7 (groupsFault inner (headTag g ∷ seen) (at + parts g) gs)
+        → Within 1 7 (elim a [ true ↦ some (record { number = 6; place = at }) | false ↦ elim b [ true ↦ some (record { number = 7; place = at }) | false ↦ firstOf (inner at g) (groupsFault inner (headTag g ∷ seen) (at + parts g) gs) ] ])
     go true b next = (omega arith, omega arith)
     go false true next = (omega arith, omega arith)
-    go false false next = first-within (inner at g) (groupsFault inner (label g ∷ seen) (at + parts g) gs) (h at g) next
+    go false false next = first-within (inner at g) (groupsFault inner (headTag g ∷ seen) (at + parts g) gs) (h at g) next
 
 fields-within : (at : ℕ) (ts : List Tag) → Within 1 7 (fieldsFault at ts)
 unfolding fieldsFault fieldFault

@@ -12,8 +12,8 @@ use Rattle.standard.specs.Tag.{Tag, order, same, present, replace, onto}
 use Rattle.standard.specs.Grammar.{title, upper, Kind, aScript, aRegion, aVariant, kindOf, isLanguage, languageSize, sizeOf}
 use Rattle.standard.specs.Identifier.{Three, und, Tables, withoutUnknown, complete, sameThree, Kept, Good}
 use Rattle.standard.specs.Reading.{optional, joined, Fault, ofKind}
-use Rattle.standard.specs.Chain.{line, parentOf, parent, isRoot, reaches, GoodParents}
-use Rattle.standard.specs.Table.{pieces, after, lookup, rows, lower, inCanonicalCase, findInCase, threeOf, parse, printThree, isThree, languageKey, scriptKey, regionKey, variantKey, parsed, tablesOf, isWord, isUnd, isVariantTag, aliasShape, likelyShape, parentShape, isNone, unaliased, aliasFree, likelyFree, parentFree, keyOf, above, rowsFault, clashFault, TableFault, inTable, firstTable, check}
+use Rattle.standard.specs.Chain.{line, parentOf, parent, isUndAlone, reaches, GoodParents}
+use Rattle.standard.specs.Table.{pieces, after, lookup, rows, lower, inCanonicalCase, findInCase, threeOf, parse, printThree, isThree, languageKey, scriptKey, regionKey, variantKey, parsed, tablesOf, isWord, languageIsUnd, isVariantTag, aliasShape, likelyShape, parentShape, isNone, unaliased, aliasFree, likelyFree, parentFree, keyOf, above, rowsFault, clashFault, TableFault, inTable, firstTable, check}
 use Rattle.standard.proofs.Tags.{same-eq}
 use Rattle.standard.proofs.Core.{sameThree-eq}
 use Rattle.standard.proofs.Bytes.{clash, bool-cases, and-true, true→T, T→true, word}
@@ -323,8 +323,8 @@ left-of a e = sym (or-false a) ∙ e
 shape-language : (k v : Tag) → aliasShape (languageName ∷ k ∷ v ∷ []) ≡ true → isThree v ≡ true
 unfolding aliasShape same order
 shape-language k v e =
-    let h = and-true (isLanguage k && not (same k und)) (isThree v && not (isUnd (parse v))) (left-of _ e) in
-    (and-true (isThree v) (not (isUnd (parse v))) (h .1)) .0
+    let h = and-true (isLanguage k && not (same k und)) (isThree v && not (languageIsUnd (parse v))) (left-of _ e) in
+    (and-true (isThree v) (not (languageIsUnd (parse v))) (h .1)) .0
 
 shape-script : (k v : Tag) → aliasShape (scriptName ∷ k ∷ v ∷ []) ≡ true → inCanonicalCase aScript title v ≡ true
 unfolding aliasShape same order
@@ -468,8 +468,8 @@ module _ (A L P : List ℕ) (p : Passed A L P) where
   not-present [] e = refl
   not-present (b ∷ bs) e = no e
 
-  root-printed : (t : Three) → isRoot (line t []) ≡ true → printThree t ≡ und
-  unfolding isRoot printThree optional joined
+  root-printed : (t : Three) → isUndAlone (line t []) ≡ true → printThree t ≡ und
+  unfolding isUndAlone printThree optional joined
   root-printed t e =
       let h = and-true (same (t .language) und && not (present (t .script)) && not (present (t .region))) true e in
       let i = and-true (same (t .language) und && not (present (t .script))) (not (present (t .region))) (h .0) in
@@ -480,13 +480,13 @@ module _ (A L P : List ℕ) (p : Passed A L P) where
     within : reaches U 8 (line k []) ≡ true
     shaped : Shaped w
 
-  reaches-off : (n : ℕ) (t : Three) → isRoot (line t []) ≡ false → reaches U (suc n) (line t []) ≡ true → reaches U n (parent U (line t [])) ≡ true
+  reaches-off : (n : ℕ) (t : Three) → isUndAlone (line t []) ≡ false → reaches U (suc n) (line t []) ≡ true → reaches U n (parent U (line t [])) ≡ true
   unfolding reaches
   reaches-off n t f e = rw (f, reaches) at e
 
   reaches-on : (n : ℕ) (t : Three) → reaches U n (parent U (line t [])) ≡ true → reaches U (suc n) (line t []) ≡ true
   unfolding reaches
-  reaches-on n t e = bool-cases (isRoot (line t [])) (λ f. rw (f, reaches)) (λ f. rw (f, reaches) e)
+  reaches-on n t e = bool-cases (isUndAlone (line t [])) (λ f. rw (f, reaches)) (λ f. rw (f, reaches) e)
 
   not-same : (x : Tag) → not (same x und) ≡ true → x ≡ und → ⊥
   unfolding same order
@@ -505,7 +505,7 @@ module _ (A L P : List ℕ) (p : Passed A L P) where
           let i = and-true (not (same key und)) (isThree v) (h .1) in
           let walk = and-true (unaliased U (parse v)) (reaches U 8 (line (parse key) [])) free in
           let again : printThree (parse key) ≡ key = same-eq (printThree (parse key)) key ((and-true (isLanguage ((parse key) .language)) (same (printThree (parse key)) key) (h .0)) .1) in
-          let off : isRoot (line (parse key) []) ≡ false = bool-cases (isRoot (line (parse key) [])) (λ r. absurd (not-same key (i .0) (sym again ∙ root-printed (parse key) r))) (λ r. r) in
+          let off : isUndAlone (line (parse key) []) ≡ false = bool-cases (isUndAlone (line (parse key) [])) (λ r. absurd (not-same key (i .0) (sym again ∙ root-printed (parse key) r))) (λ r. r) in
           let w′ : U .parents (parse key) ≡ some w = ap (λ (x : List ℕ). parsed (lookup (rows P) x)) again ∙ e in
           let next : reaches U 7 (line w []) ≡ true = subst (λ (o : Option Three). reaches U 7 (line (parentOf o (parse key)) []) ≡ true) w′ (reaches-off 7 (parse key) off (walk .1)) in
           record {

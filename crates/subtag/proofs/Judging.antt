@@ -7,7 +7,7 @@ use Prim.Native.Nat.{ℕ, zero, suc, _+_, _-_, _*_, _/_, _^_, _≤_, _<_}
 use native.Mathlib.Nat.{mul-le-mul-right}
 use native.Mathlib.Omega.{arith}
 use lib.ListN.{length, getD, drop}
-use Rattle.standard.specs.Tag.{Tag, label}
+use Rattle.standard.specs.Tag.{Tag, headTag}
 use Rattle.standard.specs.Grammar.{separator, lowerByte, small, digit, capital}
 use Rattle.standard.specs.Reading.{split}
 use Rattle.subtag.specs.declared.Class.{Class}
@@ -87,7 +87,7 @@ product-fits b w h = mul-le-mul-right w (omega arith)
 
 -- The state of the loop.
 abbrev pub frontOf : List ℕ → Tag
-frontOf s = label (split s)
+frontOf s = headTag (split s)
 
 pub record Judging (s : List ℕ) (letters digits key weight len : ℕ) : Type 0 where
   pub within : len ≤ length s

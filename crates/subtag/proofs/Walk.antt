@@ -11,14 +11,14 @@ use lib.Dec.{leb}
 use lib.ListN.{length, getD, take, drop, drop-of-length-le, length-drop}
 use lib.Seq.{drop-cons, drop-drop, take-all}
 use borrow.Author.Tests.{leb-true, leb-false}
-use Rattle.standard.specs.Tag.{Tag, label, onto}
+use Rattle.standard.specs.Tag.{Tag, headTag, onto}
 use Rattle.standard.specs.Grammar.{separator, lowerByte}
 use Rattle.standard.specs.Reading.{split, afterFirst}
 use Rattle.subtag.specs.declared.Subtag.{Subtag}
 use Rattle.subtag.specs.Subtags.{subtagOf}
 
-label-onto : (b : ℕ) (ts : List Tag) → label (onto b ts) ≡ b ∷ label ts
-unfolding label onto
+label-onto : (b : ℕ) (ts : List Tag) → headTag (onto b ts) ≡ b ∷ headTag ts
+unfolding headTag onto
 label-onto b [] = refl
 label-onto b (t ∷ ts) = refl
 
@@ -37,101 +37,101 @@ module _ (b : ℕ) (s : List ℕ) where
   unfolding split
   split-byte e = rw (e, split)
 
-  pub label-byte : separator b ≡ false → label (split (b ∷ s)) ≡ lowerByte b ∷ label (split s)
-  label-byte e = ap label (split-byte e) ∙ label-onto (lowerByte b) (split s)
+  pub label-byte : separator b ≡ false → headTag (split (b ∷ s)) ≡ lowerByte b ∷ headTag (split s)
+  label-byte e = ap headTag (split-byte e) ∙ label-onto (lowerByte b) (split s)
 
   pub after-byte : separator b ≡ false → afterFirst (split (b ∷ s)) ≡ afterFirst (split s)
   after-byte e = ap afterFirst (split-byte e) ∙ after-onto (lowerByte b) (split s)
 
-  pub label-sep : separator b ≡ true → label (split (b ∷ s)) ≡ []
-  unfolding label
-  label-sep e = ap label (split-sep e)
+  pub label-sep : separator b ≡ true → headTag (split (b ∷ s)) ≡ []
+  unfolding headTag
+  label-sep e = ap headTag (split-sep e)
 
   pub after-sep : separator b ≡ true → afterFirst (split (b ∷ s)) ≡ split s
   unfolding afterFirst
   after-sep e = ap afterFirst (split-sep e)
 
 -- a subtag and what follows it
-pub split-cons : (s : List ℕ) → split s ≡ label (split s) ∷ afterFirst (split s)
-unfolding split label afterFirst onto
+pub split-cons : (s : List ℕ) → split s ≡ headTag (split s) ∷ afterFirst (split s)
+unfolding split headTag afterFirst onto
 split-cons [] = refl
 split-cons (b ∷ s) = go (separator b) refl
   where
-    cons : (ts : List Tag) → onto (lowerByte b) ts ≡ label (onto (lowerByte b) ts) ∷ afterFirst (onto (lowerByte b) ts)
+    cons : (ts : List Tag) → onto (lowerByte b) ts ≡ headTag (onto (lowerByte b) ts) ∷ afterFirst (onto (lowerByte b) ts)
     cons [] = refl
     cons (t ∷ ts) = refl
 
-    go : (p : Bool) → separator b ≡ p → split (b ∷ s) ≡ label (split (b ∷ s)) ∷ afterFirst (split (b ∷ s))
+    go : (p : Bool) → separator b ≡ p → split (b ∷ s) ≡ headTag (split (b ∷ s)) ∷ afterFirst (split (b ∷ s))
     go true e = rw (split-sep b s e)
     go false e = rw (split-byte b s e) (cons (split s))
 
 -- what follows the first subtag begins with its separator
 pub record Rest (s r : List ℕ) : Type 0 where
-  pub begins : label (split r) ≡ []
+  pub begins : headTag (split r) ≡ []
   pub tags : afterFirst (split r) ≡ afterFirst (split s)
 
-pub split-rest : (s : List ℕ) → Rest s (drop (length (label (split s))) s)
-unfolding split label afterFirst
+pub split-rest : (s : List ℕ) → Rest s (drop (length (headTag (split s))) s)
+unfolding split headTag afterFirst
 split-rest [] = record { begins = refl; tags = refl }
 split-rest (b ∷ s) = go (separator b) refl (split-rest s)
   where
-    go : (p : Bool) → separator b ≡ p → Rest s (drop (length (label (split s))) s) → Rest (b ∷ s) (drop (length (label (split (b ∷ s)))) (b ∷ s))
+    go : (p : Bool) → separator b ≡ p → Rest s (drop (length (headTag (split s))) s) → Rest (b ∷ s) (drop (length (headTag (split (b ∷ s)))) (b ∷ s))
     go true e r = rw (label-sep b s e) (record { begins = label-sep b s e; tags = refl })
     go false e r = rw (label-byte b s e) (record { begins = r .begins; tags = r .tags ∙ sym (after-byte b s e) })
 
-pub label-fits : (s : List ℕ) → length (label (split s)) ≤ length s
-unfolding split label
+pub label-fits : (s : List ℕ) → length (headTag (split s)) ≤ length s
+unfolding split headTag
 label-fits [] = omega arith
 label-fits (b ∷ s) = go (separator b) refl (label-fits s)
   where
-    go : (p : Bool) → separator b ≡ p → length (label (split s)) ≤ length s → length (label (split (b ∷ s))) ≤ suc (length s)
+    go : (p : Bool) → separator b ≡ p → length (headTag (split s)) ≤ length s → length (headTag (split (b ∷ s))) ≤ suc (length s)
     go true e h = rw (label-sep b s e) (omega arith)
     go false e h = rw (label-byte b s e) (omega arith)
 
 -- The byte at an index.
-pub at-end : (s : List ℕ) (i : ℕ) → length s ≤ i → label (split (drop i s)) ≡ []
-unfolding split label
-at-end s i h = ap (λ (x : List ℕ). label (split x)) (drop-of-length-le s h)
+pub at-end : (s : List ℕ) (i : ℕ) → length s ≤ i → headTag (split (drop i s)) ≡ []
+unfolding split headTag
+at-end s i h = ap (λ (x : List ℕ). headTag (split x)) (drop-of-length-le s h)
 
-pub at-sep : (s : List ℕ) (i : ℕ) → i < length s → separator (getD s i 0) ≡ true → label (split (drop i s)) ≡ []
+pub at-sep : (s : List ℕ) (i : ℕ) → i < length s → separator (getD s i 0) ≡ true → headTag (split (drop i s)) ≡ []
 at-sep s i h e = rw (drop-cons s i 0 h) (label-sep (getD s i 0) (drop (suc i) s) e)
 
-pub at-byte : (s : List ℕ) (i : ℕ) → i < length s → separator (getD s i 0) ≡ false → label (split (drop i s)) ≡ lowerByte (getD s i 0) ∷ label (split (drop (i + 1) s))
+pub at-byte : (s : List ℕ) (i : ℕ) → i < length s → separator (getD s i 0) ≡ false → headTag (split (drop i s)) ≡ lowerByte (getD s i 0) ∷ headTag (split (drop (i + 1) s))
 at-byte s i h e = rw (add-one, drop-cons s i 0 h) (label-byte (getD s i 0) (drop (suc i) s) e)
 
 -- From one subtag to the next.
-pub split-end : (s : List ℕ) → length s ≤ length (label (split s)) → split s ≡ label (split s) ∷ []
+pub split-end : (s : List ℕ) → length s ≤ length (headTag (split s)) → split s ≡ headTag (split s) ∷ []
 unfolding split afterFirst
 split-end s h =
     let r = split-rest s in
-    split-cons s ∙ ap (_∷_ (label (split s))) (sym (r .tags) ∙ ap (λ (x : List ℕ). afterFirst (split x)) (drop-of-length-le s h))
+    split-cons s ∙ ap (_∷_ (headTag (split s))) (sym (r .tags) ∙ ap (λ (x : List ℕ). afterFirst (split x)) (drop-of-length-le s h))
 
-led-sep : (b : ℕ) (s : List ℕ) → label (split (b ∷ s)) ≡ [] → separator b ≡ true
+led-sep : (b : ℕ) (s : List ℕ) → headTag (split (b ∷ s)) ≡ [] → separator b ≡ true
 led-sep b s h = go (separator b) refl
   where
     go : (p : Bool) → separator b ≡ p → separator b ≡ true
     go true e = e
     go false e = cc (label-byte b s e)
 
-pub split-next : (s : List ℕ) → length (label (split s)) < length s → split s ≡ label (split s) ∷ split (drop (suc (length (label (split s)))) s)
+pub split-next : (s : List ℕ) → length (headTag (split s)) < length s → split s ≡ headTag (split s) ∷ split (drop (suc (length (headTag (split s)))) s)
 split-next s h =
-    let n = length (label (split s)) in
+    let n = length (headTag (split s)) in
     let r = split-rest s in
     let c = drop-cons s n 0 h in
     let p = led-sep (getD s n 0) (drop (suc n) s) (rw c at (r .begins)) in
-    split-cons s ∙ ap (_∷_ (label (split s))) (sym (r .tags) ∙ ap (λ (x : List ℕ). afterFirst (split x)) c ∙ after-sep (getD s n 0) (drop (suc n) s) p)
+    split-cons s ∙ ap (_∷_ (headTag (split s))) (sym (r .tags) ∙ ap (λ (x : List ℕ). afterFirst (split x)) c ∙ after-sep (getD s n 0) (drop (suc n) s) p)
 
 -- what the judge says of the part from `at` on
-pub judged : (s : List ℕ) (at : ℕ) (r : Subtag) → r ≡ subtagOf (label (split (take (length s - at) (drop at s)))) → r ≡ subtagOf (label (split (drop at s)))
-judged s at r e = e ∙ ap (λ (x : List ℕ). subtagOf (label (split x))) (take-all (length s - at) (drop at s) (simp length-drop (omega arith)))
+pub judged : (s : List ℕ) (at : ℕ) (r : Subtag) → r ≡ subtagOf (headTag (split (take (length s - at) (drop at s)))) → r ≡ subtagOf (headTag (split (drop at s)))
+judged s at r e = e ∙ ap (λ (x : List ℕ). subtagOf (headTag (split x))) (take-all (length s - at) (drop at s) (simp length-drop (omega arith)))
 
 pub judged-len : (t : Tag) (r : Subtag) → r ≡ subtagOf t → r .len ≡ length t
 unfolding subtagOf
 judged-len t r e = ap (λ (x : Subtag). x .len) e
 
-pub judged-fits : (s : List ℕ) (at : ℕ) (r : Subtag) → r ≡ subtagOf (label (split (take (length s - at) (drop at s)))) → r .len ≤ length s - at
+pub judged-fits : (s : List ℕ) (at : ℕ) (r : Subtag) → r ≡ subtagOf (headTag (split (take (length s - at) (drop at s)))) → r .len ≤ length s - at
 judged-fits s at r e =
-    let n = judged-len (label (split (drop at s))) r (judged s at r e) in
+    let n = judged-len (headTag (split (drop at s))) r (judged s at r e) in
     let f = rw length-drop at (label-fits (drop at s)) in
     omega arith
 
@@ -142,13 +142,13 @@ le-or-lt a b = go (leb a b) refl
     go true h = inl (leb-true a b h)
     go false h = inr (leb-false a b h)
 
-module _ (s : List ℕ) (at len : ℕ) (e : len ≡ length (label (split (drop at s)))) where
-  pub walk-more : len < length s - at → split (drop at s) ≡ label (split (drop at s)) ∷ split (drop (at + len + 1) s)
+module _ (s : List ℕ) (at len : ℕ) (e : len ≡ length (headTag (split (drop at s)))) where
+  pub walk-more : len < length s - at → split (drop at s) ≡ headTag (split (drop at s)) ∷ split (drop (at + len + 1) s)
   walk-more h =
-      let k : at + suc (length (label (split (drop at s)))) ≡ at + len + 1 = omega arith in
+      let k : at + suc (length (headTag (split (drop at s)))) ≡ at + len + 1 = omega arith in
       split-next (drop at s) (simp length-drop (omega arith))
-      ∙ ap (λ (x : List ℕ). label (split (drop at s)) ∷ split x)
-      (drop-drop (suc (length (label (split (drop at s))))) at s ∙ ap (λ (k : ℕ). drop k s) k)
+      ∙ ap (λ (x : List ℕ). headTag (split (drop at s)) ∷ split x)
+      (drop-drop (suc (length (headTag (split (drop at s))))) at s ∙ ap (λ (k : ℕ). drop k s) k)
 
-  pub walk-end : length s - at ≤ len → split (drop at s) ≡ label (split (drop at s)) ∷ []
+  pub walk-end : length s - at ≤ len → split (drop at s) ≡ headTag (split (drop at s)) ∷ []
   walk-end h = split-end (drop at s) (simp length-drop (omega arith))

@@ -5,7 +5,7 @@ ghost use mathlib.Core.List.{map};
 ghost use Prim.Native.Nat.{_+_, _≤_, _<_};
 ghost use lib.ListN.{length};
 ghost use lib.Seq.{sets};
-ghost use Rattle.standard.specs.Tag.{label, order, same as sameTag};
+ghost use Rattle.standard.specs.Tag.{headTag, order, same as sameTag};
 ghost use Rattle.standard.specs.Grammar.{lowerByte, upperByte, separator, small, capital, digit as digitByte};
 ghost use Rattle.standard.specs.Reading.{split};
 ghost use Rattle.subtag.specs.Bytes.{classOf, isSeparator, letterOf, digitOf, tidyByte, raised, raisedByte};
@@ -133,7 +133,7 @@ pub struct Subtag {
 
 // The first byte of the subtag at the front of rest, or 0.
 fn first_of(rest: &[u8]) -> u8
-    ensures { λ r. ⌜ r ≡ firstByte (label (split (now (rest .entry)))) ⌝ }
+    ensures { λ r. ⌜ r ≡ firstByte (headTag (split (now (rest .entry)))) ⌝ }
 {
     if rest.len() == 0 {
         return 0;
@@ -147,7 +147,7 @@ fn first_of(rest: &[u8]) -> u8
 
 // The subtag at the front of rest, up to the next separator or the end.
 pub fn judge(rest: &[u8]) -> Subtag
-    ensures { λ r. ⌜ r ≡ subtagOf (label (split (now (rest .entry)))) ⌝ }
+    ensures { λ r. ⌜ r ≡ subtagOf (headTag (split (now (rest .entry)))) ⌝ }
 {
     let first = first_of(rest);
     let mut letters: usize = 0;

@@ -11,7 +11,7 @@ use native.Mathlib.Omega.{arith}
 use lib.ListN.{length, take, drop, drop-of-length-le, length-take, length-drop}
 use lib.Seq.{take-take}
 use borrow.Author.Tests.{lt-ltb}
-use Rattle.standard.specs.Tag.{Tag, same, label}
+use Rattle.standard.specs.Tag.{Tag, same, headTag}
 use Rattle.standard.specs.Identifier.{und, complete, sameThree, withoutUnknown}
 use Rattle.standard.specs.Reading.{fault}
 use Rattle.standard.specs.Chain.{line}
@@ -60,11 +60,11 @@ pub record TwoLine (l : List ℕ) (x : ℕ) : Type 0 where
   pub room : x < length l
   pub key : ValueOk (take x l)
   pub value : ValueOk (drop (x + 1) l)
-  pub first : label (pieces 9 l) ≡ take x l
+  pub first : headTag (pieces 9 l) ≡ take x l
   pub second : secondOf (pieces 9 l) ≡ drop (x + 1) l
 
 two-tags : (l : List ℕ) (x : ℕ) → x ≡ endOf 9 l 0 → (k v : Tag) → pieces 9 l ≡ k ∷ v ∷ [] → isThree k ≡ true → isThree v ≡ true → Free 9 k → Free 9 v → TwoLine l x
-unfolding label secondOf
+unfolding headTag secondOf
 two-tags l x q k v e a b f g =
     let p = sym (pieces-first 9 l x q) ∙ e in
     let h = others-some 9 l x v [] (tail-eq-of-cons-eq p) in
@@ -74,7 +74,7 @@ two-tags l x q k v e a b f g =
       room = h;
       key = rw (← w) (record { three = a; free = f });
       value = rw (← u) (record { three = b; free = g });
-      first = ap label e ∙ w;
+      first = ap headTag e ∙ w;
       second = ap secondOf e ∙ u;
     }
 
@@ -91,7 +91,7 @@ two-line l x q s = go (pieces 9 l) refl s (pieces-free 9 l)
 -- The standard's test is ours, over rows that have their shape.
 module _ (A L P : List ℕ) where
   pub free-is : (table : Table) (ts : List Tag) → shapeOf table ts ≡ true → freeOf table (tablesOf A L P) ts ≡ freeRow table A P ts
-  unfolding freeOf freeRow shapeOf likelyShape parentShape likelyFree parentFree secondOf freeParent reachesFrom label
+  unfolding freeOf freeRow shapeOf likelyShape parentShape likelyFree parentFree secondOf freeParent reachesFrom headTag
   free-is Aliases ts e = free-alias A L P ts e
   free-is Likely [] e = no e
   free-is Likely (a ∷ []) e = no e
@@ -184,7 +184,7 @@ module _ (A P : List ℕ) (ts : List Tag) where
   unfolding freeParent
   parent-value e = rw e
 
-  pub parent-walk : (b : Bool) → freeThree A (parse (secondOf ts)) ≡ true → b ≡ reachesFrom P 8 (label ts) → b ≡ freeParent A P ts
+  pub parent-walk : (b : Bool) → freeThree A (parse (secondOf ts)) ≡ true → b ≡ reachesFrom P 8 (headTag ts) → b ≡ freeParent A P ts
   unfolding freeParent
   parent-walk b e f = rw e f
 

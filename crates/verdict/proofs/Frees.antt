@@ -12,7 +12,7 @@ use lib.Seq.{take-all}
 use Rattle.standard.specs.Tag.{Tag, order, same}
 use Rattle.standard.specs.Grammar.{isLanguage}
 use Rattle.standard.specs.Identifier.{Three as Subtags, three, und}
-use Rattle.standard.specs.Table.{Found as Located, pieces, lookup, rows, located, parse, isThree, isUnd, languageKey, scriptKey, regionKey, variantKey, parsed, tablesOf, isVariantTag, aliasShape, isNone, unaliased, aliasFree}
+use Rattle.standard.specs.Table.{Found as Located, pieces, lookup, rows, located, parse, isThree, languageIsUnd, languageKey, scriptKey, regionKey, variantKey, parsed, tablesOf, isVariantTag, aliasShape, isNone, unaliased, aliasFree}
 use Rattle.standard.proofs.Tags.{same-eq}
 use Rattle.standard.proofs.Bytes.{bool-cases, clash, and-true}
 use Rattle.table.specs.Lines.{endOf, valueIf}
@@ -170,8 +170,8 @@ own-is l v r e f = f ∙ ap (λ (x : AliasKind). ownTag x v) (sym e)
 own-short : (k : AliasKind) (key v : Tag) → shapeBy k key v ≡ true → length (ownTag k v) ≤ 16
 unfolding shapeBy languageAlias ownTag
 own-short Language key v e =
-    let h = and-true (isLanguage key && not (same key und)) (isThree v && not (isUnd (parse v))) e in
-    let i = and-true (isThree v) (not (isUnd (parse v))) (h .1) in
+    let h = and-true (isLanguage key && not (same key und)) (isThree v && not (languageIsUnd (parse v))) e in
+    let i = and-true (isThree v) (not (languageIsUnd (parse v))) (h .1) in
     let o = three-ok v (i .0) in
     language-small ((parse v) .language) (o .language)
 own-short Script key v e = script-small v (inr ((and-true (isScript key) (isScript v) e) .1))

@@ -13,7 +13,7 @@ use lib.Seq.{take-at, take-take}
 use borrow.Author.Tests.{eqb-true}
 use Rattle.standard.specs.Tag.{Tag, order, same, present, onto}
 use Rattle.standard.specs.Identifier.{Three as Subtags, three, und, Tables}
-use Rattle.standard.specs.Chain.{Line, line, shorter, parentOf, parent, isRoot, reaches}
+use Rattle.standard.specs.Chain.{Line, line, shorter, parentOf, parent, isUndAlone, reaches}
 use Rattle.standard.specs.Reading.{optional, joined}
 use Rattle.standard.specs.Table.{pieces, after, lookup, rows, located, findInCase, threeOf, parse, printThree, isThree, parsed, tablesOf, parentShape}
 use Rattle.standard.proofs.Tags.{All, same-eq, same-refl}
@@ -38,7 +38,7 @@ no e = clash {b = true} refl (sym e)
 pub reaches-parents : (A L B M P : List ℕ) (n : ℕ) (l : Line) → reaches (tablesOf A L P) n l ≡ reaches (tablesOf B M P) n l
 unfolding reaches parent tablesOf
 reaches-parents A L B M P zero l = refl
-reaches-parents A L B M P (suc n) l = bool-cases (isRoot l) (λ e. rw (e, reaches)) (λ e. rw (e, reaches) (reaches-parents A L B M P n (parent (tablesOf A L P) l)))
+reaches-parents A L B M P (suc n) l = bool-cases (isUndAlone l) (λ e. rw (e, reaches)) (λ e. rw (e, reaches) (reaches-parents A L B M P n (parent (tablesOf A L P) l)))
 
 -- A text and its parent.
 module _ (P x : List ℕ) (e : isThree x ≡ true) where
@@ -63,8 +63,8 @@ not-present [] e = refl
 not-present (b ∷ bs) e = no e
 
 -- the end of the walk
-root-text : (t : Subtags) → isRoot (line t []) ≡ true → printThree t ≡ und
-unfolding isRoot printThree optional joined
+root-text : (t : Subtags) → isUndAlone (line t []) ≡ true → printThree t ≡ und
+unfolding isUndAlone printThree optional joined
 root-text t e =
     let h = and-true (same (t .language) und && not (present (t .script)) && not (present (t .region))) true e in
     let i = and-true (same (t .language) und && not (present (t .script))) (not (present (t .region))) (h .0) in
@@ -75,14 +75,14 @@ parse-und : parse und ≡ three und [] []
 unfolding parse threeOf pieces onto findInCase
 parse-und = refl
 
-und-root : isRoot (line (three und [] []) []) ≡ true
-unfolding isRoot present same order
+und-root : isUndAlone (line (three und [] []) []) ≡ true
+unfolding isUndAlone present same order
 und-root = refl
 
-pub root-is : (x : List ℕ) → isThree x ≡ true → isRoot (line (parse x) []) ≡ same x und
-root-is x e = both-ways (isRoot (line (parse x) [])) (same x und)
+pub root-is : (x : List ℕ) → isThree x ≡ true → isUndAlone (line (parse x) []) ≡ same x und
+root-is x e = both-ways (isUndAlone (line (parse x) [])) (same x und)
     (λ r. ap (λ (y : Tag). same y und) (sym (three-text x e) ∙ root-text (parse x) r) ∙ same-refl und)
-    (λ s. ap (λ (t : Subtags). isRoot (line t [])) (ap parse (same-eq x und s) ∙ parse-und) ∙ und-root)
+    (λ s. ap (λ (t : Subtags). isUndAlone (line t [])) (ap parse (same-eq x und s) ∙ parse-und) ∙ und-root)
 
 -- Texts without their last subtag.
 joined-last : (l : Tag) (ts : List Tag) (r : Tag) → joined (l ∷ (ts ++ (r ∷ []))) ≡ joined (l ∷ ts) ++ (45 ∷ r)

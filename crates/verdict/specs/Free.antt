@@ -4,7 +4,7 @@
 use mathlib.Core.Bool.{Bool, false, not, _&&_}
 use mathlib.Core.List.{List, [], _∷_}
 use Prim.Native.Nat.{ℕ}
-use Rattle.standard.specs.Tag.{Tag, label}
+use Rattle.standard.specs.Tag.{Tag, headTag}
 use Rattle.standard.specs.Identifier.{Three, Tables}
 use Rattle.standard.specs.Reading.{Fault, fault}
 use Rattle.rows.specs.declared.Table.{Table}
@@ -51,7 +51,7 @@ secondOf (a ∷ []) = []
 secondOf (a ∷ b ∷ ts) = b
 
 unfoldable pub freeParent : List ℕ → List ℕ → List Tag → Bool
-freeParent A P ts = freeThree A (parse (secondOf ts)) && reachesFrom P 8 (label ts)
+freeParent A P ts = freeThree A (parse (secondOf ts)) && reachesFrom P 8 (headTag ts)
 
 -- a row of the table t that does not clash
 unfoldable pub freeRow : Table → List ℕ → List ℕ → List Tag → Bool

@@ -4,7 +4,7 @@ use native.Mathlib.Omega.{arith}
 use mathlib.Core.Path.{_≡_, refl, sym, _∙_}
 use Prim.Native.Nat.{suc, _-_, _≤_}
 use lib.ListN.{length, drop}
-use Rattle.standard.specs.Tag.{label}
+use Rattle.standard.specs.Tag.{headTag}
 use Rattle.standard.specs.Reading.{badTag, wrongSize, split}
 use Rattle.subtag.proofs.Walk.{judged, judged-len}
 use Rattle.reader.specs.Parts.{foundAs}
@@ -19,11 +19,11 @@ abbrev μ-loop : tie.MeasureT-loop
 μ-loop id at₀ at = suc (length id) - at
 
 -- the length of the subtag at hand
-length-at : (c : tie.After-judge Inv-loop μ-loop) → c .judge .result .len ≡ length (label (split (drop (c .before .before .loop .at) (c .before .before .before .before .args .id .now))))
+length-at : (c : tie.After-judge Inv-loop μ-loop) → c .judge .result .len ≡ length (headTag (split (drop (c .before .before .loop .at) (c .before .before .before .before .args .id .now))))
 length-at c =
     let s = c .before .before .before .before .args .id .now in
     let at = c .before .before .loop .at in
-    judged-len (label (split (drop at s))) (c .judge .result) (judged s at (c .judge .result) (c .judge .ensures))
+    judged-len (headTag (split (drop at s))) (c .judge .result) (judged s at (c .judge .result) (c .judge .ensures))
 
 loop-holds : tie.Need-loop-holds Inv-loop μ-loop
 loop-holds c = (omega arith, refl)
