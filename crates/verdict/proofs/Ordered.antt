@@ -20,7 +20,8 @@ use Rattle.rows.proofs.Sorted.{sorted, rows-pass}
 use Rattle.verdict.specs.declared.Verdict.{Verdict}
 use Rattle.verdict.specs.declared.Verdict.the-variants.{Good, Bad}
 use Rattle.verdict.specs.Free.{freeRow, freeOf}
-use Rattle.verdict.specs.Verdicts.{verdictIs, numberOf, sizesFault, shapesFault, clashesFault, Shaped}
+use Rattle.verdict.specs.declared.Test.the-variants.{Size, Shape}
+use Rattle.verdict.specs.Verdicts.{verdictIs, numberOf, faultBy, eachFault, clashesFault, Shaped}
 use Rattle.verdict.proofs.Clashes.{clash-is}
 
 -- A table that is used, or not.
@@ -69,8 +70,8 @@ unfolding firstTable
 first-first none b c = refl
 first-first (some f) b c = refl
 
-pub check-parts : (useL useP : Bool) (A L P : List ℕ) → firstTable (sizesFault useL useP A L P) (firstTable (shapesFault useL useP A L P) (clashesFault useL useP A L P)) ≡ check useL useP A L P
-unfolding check sizesFault shapesFault clashesFault
+pub check-parts : (useL useP : Bool) (A L P : List ℕ) → firstTable (eachFault Size useL useP A L P) (firstTable (eachFault Shape useL useP A L P) (clashesFault useL useP A L P)) ≡ check useL useP A L P
+unfolding check eachFault faultBy shapeOf clashesFault
 check-parts useL useP A L P = simp first-first
 
 -- What the shapes give: sorted rows, each of its shape.
@@ -80,8 +81,8 @@ in-table-none false n o e f = clash f refl
 in-table-none true n none e f = refl
 in-table-none true n (some g) e f = let z : _≡_ {A = ℕ} 0 1 = cc in absurd (omega arith)
 
-pub shaped : (useL useP : Bool) (A L P : List ℕ) → shapesFault useL useP A L P ≡ none → Shaped useL useP A L P
-unfolding shapesFault shapeOf
+pub shaped : (useL useP : Bool) (A L P : List ℕ) → eachFault Shape useL useP A L P ≡ none → Shaped useL useP A L P
+unfolding eachFault faultBy shapeOf
 shaped useL useP A L P e =
     let f = firstTable-none (inTable true 1 (rowsFault aliasShape none 0 (rows A))) _ e in
     let g = firstTable-none (inTable useL 2 (rowsFault likelyShape none 0 (rows L))) (inTable useP 3 (rowsFault parentShape none 0 (rows P))) (f .1) in
@@ -120,8 +121,8 @@ pub record SortedTables (useL useP : Bool) (A L P : List ℕ) : Type 0 where
 
 pub check-shaped : (useL useP : Bool) (A L P : List ℕ) → check useL useP A L P ≡ none → Shaped useL useP A L P
 check-shaped useL useP A L P e =
-    let f = firstTable-none (sizesFault useL useP A L P) (firstTable (shapesFault useL useP A L P) (clashesFault useL useP A L P)) (check-parts useL useP A L P ∙ e) in
-    let g = firstTable-none (shapesFault useL useP A L P) (clashesFault useL useP A L P) (f .1) in
+    let f = firstTable-none (eachFault Size useL useP A L P) (firstTable (eachFault Shape useL useP A L P) (clashesFault useL useP A L P)) (check-parts useL useP A L P ∙ e) in
+    let g = firstTable-none (eachFault Shape useL useP A L P) (clashesFault useL useP A L P) (f .1) in
     shaped useL useP A L P (g .0)
 
 pub check-sorted : (useL useP : Bool) (A L P : List ℕ) → check useL useP A L P ≡ none → SortedTables useL useP A L P

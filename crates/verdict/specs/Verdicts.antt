@@ -5,10 +5,13 @@ use mathlib.Core.Bool.{Bool, true}
 use mathlib.Core.List.{List}
 use mathlib.Core.Option.{Option, none, some}
 use Prim.Native.Nat.{ℕ}
-use Rattle.standard.specs.Table.{TableFault, rows, tablesOf, tooBig, rowsFault, clashFault, aliasShape, likelyShape, parentShape, aliasFree, likelyFree, parentFree, inTable, firstTable}
+use Rattle.standard.specs.Reading.{Fault}
+use Rattle.standard.specs.Table.{TableFault, rows, tablesOf, tooBig, rowsFault, clashFault, aliasFree, likelyFree, parentFree, inTable, firstTable}
 use Rattle.rows.specs.declared.Table.{Table}
 use Rattle.rows.specs.declared.Table.the-variants.{Aliases, Likely, Parents}
 use Rattle.rows.specs.Rows.{shapeOf}
+use Rattle.verdict.specs.declared.Test.{Test}
+use Rattle.verdict.specs.declared.Test.the-variants.{Size, Shape}
 use Rattle.verdict.specs.declared.Verdict.{Verdict}
 use Rattle.verdict.specs.declared.Verdict.the-variants.{Good, Bad}
 
@@ -23,13 +26,13 @@ numberOf Likely = 2
 numberOf Parents = 3
 
 -- 11, then 12 and 13 row by row, then 14, each table by table
-unfoldable pub sizesFault : Bool → Bool → List ℕ → List ℕ → List ℕ → Option TableFault
-sizesFault useL useP A L P = firstTable (inTable true 1 (tooBig A)) (firstTable (inTable useL 2 (tooBig L)) (inTable useP 3 (tooBig P)))
+unfoldable pub faultBy : Test → Table → List ℕ → Option Fault
+faultBy Size table t = tooBig t
+faultBy Shape table t = rowsFault (shapeOf table) none 0 (rows t)
 
-unfoldable pub shapesFault : Bool → Bool → List ℕ → List ℕ → List ℕ → Option TableFault
-shapesFault useL useP A L P =
-    firstTable (inTable true 1 (rowsFault aliasShape none 0 (rows A)))
-    (firstTable (inTable useL 2 (rowsFault likelyShape none 0 (rows L))) (inTable useP 3 (rowsFault parentShape none 0 (rows P))))
+unfoldable pub eachFault : Test → Bool → Bool → List ℕ → List ℕ → List ℕ → Option TableFault
+eachFault test useL useP A L P =
+    firstTable (inTable true 1 (faultBy test Aliases A)) (firstTable (inTable useL 2 (faultBy test Likely L)) (inTable useP 3 (faultBy test Parents P)))
 
 unfoldable pub clashesFault : Bool → Bool → List ℕ → List ℕ → List ℕ → Option TableFault
 clashesFault useL useP A L P =

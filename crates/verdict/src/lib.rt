@@ -19,7 +19,7 @@ ghost use Rattle.table.specs.Lines.{endOf};
 ghost use Rattle.table.specs.Hints.{Hinted, Indexed};
 ghost use Rattle.standard.proofs.Table.{Pass};
 ghost use mathlib.Core.Option.{none};
-ghost use Rattle.verdict.specs.Verdicts.{verdictIs, numberOf, sizesFault, shapesFault, clashesFault, Shaped};
+ghost use Rattle.verdict.specs.Verdicts.{verdictIs, numberOf, faultBy, eachFault, clashesFault, Shaped};
 ghost use Rattle.verdict.specs.Walk.{cut};
 ghost use Rattle.verdict.specs.Free.{isThrees, freeParent, freeRow, clashIs};
 ghost use Rattle.rows.specs.Rows.{shapeOf};
@@ -129,32 +129,34 @@ fn check_free(a: &[u8], hints: &[u16], t: &[u8], own: &[u16], table: Table, used
     }
 }
 
-fn check_sizes(a: &[u8], l: &[u8], p: &[u8], use_l: bool, use_p: bool) -> Verdict
-    ensures { λ r. ⌜ verdictIs r ≡ sizesFault use_l use_p (now (a .entry)) (now (l .entry)) (now (p .entry)) ⌝ }
-{
-    let v = check_size(a, Table::Aliases, true);
-    let Verdict::Good = v else {
-        return v;
-    };
-    let w = check_size(l, Table::Likely, use_l);
-    let Verdict::Good = w else {
-        return w;
-    };
-    check_size(p, Table::Parents, use_p)
+// What a table that is used is tested for by itself: its size (11), then its rows (12 and 13).
+pub enum Test {
+    Size,
+    Shape,
 }
 
-fn check_shapes(a: &[u8], l: &[u8], p: &[u8], use_l: bool, use_p: bool) -> Verdict
-    ensures { λ r. ⌜ verdictIs r ≡ shapesFault use_l use_p (now (a .entry)) (now (l .entry)) (now (p .entry)) ⌝ }
+fn check_one(t: &[u8], table: Table, used: bool, test: Test) -> Verdict
+    ensures { λ r. ⌜ verdictIs r ≡ inTable used (numberOf table) (faultBy test table (now (t .entry))) ⌝ }
 {
-    let v = check_shape(a, Table::Aliases, true);
+    match test {
+        Test::Size => check_size(t, table, used),
+        Test::Shape => check_shape(t, table, used),
+    }
+}
+
+// One test, table by table.
+fn check_each(a: &[u8], l: &[u8], p: &[u8], use_l: bool, use_p: bool, test: Test) -> Verdict
+    ensures { λ r. ⌜ verdictIs r ≡ eachFault test use_l use_p (now (a .entry)) (now (l .entry)) (now (p .entry)) ⌝ }
+{
+    let v = check_one(a, Table::Aliases, true, test);
     let Verdict::Good = v else {
         return v;
     };
-    let w = check_shape(l, Table::Likely, use_l);
+    let w = check_one(l, Table::Likely, use_l, test);
     let Verdict::Good = w else {
         return w;
     };
-    check_shape(p, Table::Parents, use_p)
+    check_one(p, Table::Parents, use_p, test)
 }
 
 // 14, of the parents if they are used. Their walks look rows up in the table itself, by hints of its own.
@@ -210,11 +212,11 @@ fn check_clashes(a: &[u8], l: &[u8], p: &[u8], use_l: bool, use_p: bool) -> Verd
 fn check_used(a: &[u8], l: &[u8], p: &[u8], use_l: bool, use_p: bool) -> Verdict
     ensures { λ r. ⌜ verdictIs r ≡ checkOf use_l use_p (now (a .entry)) (now (l .entry)) (now (p .entry)) ⌝ }
 {
-    let v = check_sizes(a, l, p, use_l, use_p);
+    let v = check_each(a, l, p, use_l, use_p, Test::Size);
     let Verdict::Good = v else {
         return v;
     };
-    let w = check_shapes(a, l, p, use_l, use_p);
+    let w = check_each(a, l, p, use_l, use_p, Test::Shape);
     let Verdict::Good = w else {
         return w;
     };

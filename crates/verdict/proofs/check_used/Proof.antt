@@ -6,8 +6,8 @@ use borrow.Author.Needs.{needs}
 use Rattle.verdict.proofs.check_used.Statement.{statement}
 use Rattle.verdict.proofs.check_used.Tie as tie
 
-check-sizes-requires : tie.Need-check-sizes-requires
-check-sizes-requires c κs = search needs
+check-each-requires : tie.Need-check-each-requires
+check-each-requires c κs = search needs
 
 enum-told : tie.Need-enum-told
 enum-told c = search needs
@@ -19,10 +19,10 @@ returns : tie.Need-returns
 returns c =
     let f = c .before .before in
     let a = f .before .before .before .before .args in
-    first-bad _ _ _ _ (f .check-sizes .ensures) (c .enum-told2 .given .1) ∙ check-parts (a .use-l) (a .use-p) (a .a .now) (a .l .now) (a .p .now)
+    first-bad _ _ _ _ (f .check-each .ensures) (c .enum-told2 .given .1) ∙ check-parts (a .use-l) (a .use-p) (a .a .now) (a .l .now) (a .p .now)
 
-check-shapes-requires : tie.Need-check-shapes-requires
-check-shapes-requires c κs = search needs
+check-each-requires-2 : tie.Need-check-each-requires-2
+check-each-requires-2 c κs = search needs
 
 enum-told-3 : tie.Need-enum-told-3
 enum-told-3 c = search needs
@@ -36,12 +36,12 @@ returns-2 c =
     let t = g .before in
     let f = t .before .before in
     let a = f .before .before .before .before .args in
-    second-bad _ _ _ _ (f .check-sizes .ensures) (t .enum-told .given .1) _ (g .check-shapes .ensures) (c .enum-told4 .given .1) ∙ check-parts (a .use-l) (a .use-p) (a .a .now) (a .l .now) (a .p .now)
+    second-bad _ _ _ _ (f .check-each .ensures) (t .enum-told .given .1) _ (g .check-each2 .ensures) (c .enum-told4 .given .1) ∙ check-parts (a .use-l) (a .use-p) (a .a .now) (a .l .now) (a .p .now)
 
 check-clashes-requires : tie.Need-check-clashes-requires
 check-clashes-requires c κs =
     let g = c .before .before in
-    shaped _ _ _ _ _ (sym (g .check-shapes .ensures) ∙ ap verdictIs (c .enum-told3 .given .1))
+    shaped _ _ _ _ _ (sym (g .check-each2 .ensures) ∙ ap verdictIs (c .enum-told3 .given .1))
 
 returns-3 : tie.Need-returns-3
 returns-3 c =
@@ -50,17 +50,17 @@ returns-3 c =
     let t = g .before in
     let f = t .before .before in
     let a = f .before .before .before .before .args in
-    third _ _ _ _ (f .check-sizes .ensures) (t .enum-told .given .1) _ (c .check-clashes .result) (g .check-shapes .ensures) (u .enum-told3 .given .1) (c .check-clashes .ensures) ∙ check-parts (a .use-l) (a .use-p) (a .a .now) (a .l .now) (a .p .now)
+    third _ _ _ _ (f .check-each .ensures) (t .enum-told .given .1) _ (c .check-clashes .result) (g .check-each2 .ensures) (u .enum-told3 .given .1) (c .check-clashes .ensures) ∙ check-parts (a .use-l) (a .use-p) (a .a .now) (a .l .now) (a .p .now)
 
 pub check-used-spec : {M : Type 1} → statement M
 check-used-spec =
     tie.close
     (tie.spec
-    check-sizes-requires
+    check-each-requires
     enum-told
     enum-told-2
     returns
-    check-shapes-requires
+    check-each-requires-2
     enum-told-3
     enum-told-4
     returns-2
