@@ -14,7 +14,9 @@ use Rattle.standard.specs.Delivery.{Made, result, refusal as refusalMade, given
 use Rattle.standard.specs.Identifier.{Answer as StandardAnswer, done, refused, canonical}
 use Rattle.standard.specs.Reading.{Read, good, bad, read}
 use Rattle.standard.specs.Calls.{canonicalise}
-use Rattle.standard.proofs.Table.{firstTable-none, inTable-none}
+use Rattle.standard.specs.Table.{shapeOf as theShapeOf, inUse, ifUsed, shapeFault}
+use Rattle.standard.proofs.Tags.{All}
+use Rattle.standard.proofs.Table.{inTable-none, tested-none, AllClear, Clear}
 use Rattle.standard.specs.Table.{tablesOf, TableFault, check}
 use Rattle.standard.specs.Make.{made, operate, makeOf, make, afterCheck, canonicaliseMade}
 use Rattle.rows.specs.declared.Table.the-variants.{Aliases}
@@ -81,13 +83,10 @@ form-delivered A x b out out′ c f r e g h = h ∙ ap (λ (o : Outcome). given 
 
 -- Aliases that passed the check ascend.
 pub tested : (A : List ℕ) → check false false A [] [] ≡ none → Tested A
-unfolding check shapeOf
+unfolding check shapeOf theShapeOf inUse ifUsed shapeFault All AllClear Clear
 tested A e =
-    let f₁ = firstTable-none _ _ e in
-    let f₂ = firstTable-none _ _ (f₁ .1) in
-    let f₃ = firstTable-none _ _ (f₂ .1) in
-    let f₄ = firstTable-none _ _ (f₃ .1) in
-    record { passes = e; sorted = sorted-rows.sorted Aliases A (inTable-none 1 _ (f₄ .0)) }
+    let h = tested-none _ (inUse false false A [] []) e in
+    record { passes = e; sorted = sorted-rows.sorted Aliases A (inTable-none _ _ (h .1 .0 .0)) }
 
 pub tested-with : (A hints : List ℕ) → check false false A [] [] ≡ none → Hinted A hints → TestedWith A hints
 tested-with A hints e h = record { passes = e; indexed = record { sorted = (tested A e) .sorted; hinted = h } }

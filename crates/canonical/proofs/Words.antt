@@ -25,6 +25,7 @@ use Rattle.table.specs.Lines.{endOf}
 use Rattle.arranging.specs.Section.{led}
 use Rattle.canonical.specs.Alias.{replacedBy}
 use Rattle.rows.specs.Shapes.{scriptEnd}
+use Rattle.standard.proofs.Whole.{narrow-aliases}
 use Rattle.rows.proofs.Ends.{script-ends}
 use Rattle.canonical.specs.Three.{between, afterSeparator}
 use Rattle.arranging.proofs.Pending.{led-append}
@@ -33,8 +34,7 @@ use Rattle.canonical.proofs.Places.{behind, at-once}
 
 -- the aliases alone
 pub aliases-passed : (A : List ℕ) → check false false A [] [] ≡ none → Passed A [] []
-unfolding check inTable tooBig rowsFault rows pieces clashFault firstTable
-aliases-passed A e = passed A [] [] e
+aliases-passed A e = passed A [] [] (narrow-aliases A ∙ e)
 
 pub three-led : (t : Three) → printThree t ≡ t .language ++ (led (optional (t .script)) ++ led (optional (t .region)))
 unfolding printThree

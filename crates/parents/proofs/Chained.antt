@@ -19,7 +19,8 @@ use Rattle.standard.specs.Identifier.{Identifier, Tables, Answer, done, refused
 use Rattle.standard.specs.Reading.{Read, good, bad, read, print, optional}
 use Rattle.standard.specs.Chain.{line}
 use Rattle.standard.specs.Table.{tablesOf, check}
-use Rattle.standard.specs.Make.{operate, identifier, printLine, listing, chainOf, listed, chainMade, chainFrom}
+use Rattle.standard.specs.Table.{listing}
+use Rattle.standard.specs.Make.{operate, identifier, printLine, chainOf, listed, chainMade, chainFrom}
 use Rattle.standard.proofs.Lines.{Plain}
 use Rattle.standard.proofs.Whole.{same-canonical, narrow-parents}
 use Rattle.canonical.proofs.form.Canon.{the-type}

@@ -9,7 +9,9 @@ use Rattle.standard.specs.Delivery.{Bytes, given}
 use Rattle.standard.specs.Reading.{read}
 use Rattle.standard.specs.Table.{tooBig, tablesOf, check}
 use Rattle.standard.specs.Make.{chainFrom, listMade}
-use Rattle.standard.proofs.Table.{firstTable-none, inTable-none}
+use Rattle.standard.specs.Table.{inUse, ifUsed, sizeFault}
+use Rattle.standard.proofs.Tags.{All}
+use Rattle.standard.proofs.Table.{inTable-none, tested-none, AllClear, Clear}
 use Rattle.standard.proofs.Bounds.{big-none}
 use Rattle.standard.proofs.Whole.{narrow-parents}
 use Rattle.verdict.proofs.Ordered.{check-sorted}
@@ -45,8 +47,8 @@ answer-given (Refused c) out = refused-answer c out
 answer-given (Lines l) out = listed-given l out
 
 parents-small : (A P : Bytes) → check false true A [] P ≡ none → length P ≤ 32768
-unfolding check
-parents-small A P e = big-none P (inTable-none 3 (tooBig P) (firstTable-none _ _ (firstTable-none _ _ (firstTable-none _ _ e .1) .1) .0))
+unfolding check inUse ifUsed sizeFault All AllClear Clear
+parents-small A P e = let h = tested-none _ (inUse false true A [] P) e in big-none P (inTable-none _ _ (h .0 .1 .0))
 
 -- tables that pass are as the inner operation asks
 pub tested-chain : (A P : Bytes) → check false true A [] P ≡ none → TestedChain A P

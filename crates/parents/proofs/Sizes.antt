@@ -16,7 +16,8 @@ use Rattle.standard.specs.Calls.{canonicalise}
 use Rattle.standard.specs.Reading.{read, good}
 use Rattle.standard.specs.Chain.{line}
 use Rattle.standard.specs.Table.{lookup, rows, located, tablesOf, check}
-use Rattle.standard.specs.Make.{operate, identifier, printLine, listing, chainOf}
+use Rattle.standard.specs.Table.{listing}
+use Rattle.standard.specs.Make.{operate, identifier, printLine, chainOf}
 use Rattle.standard.proofs.Bytes.{clash}
 use Rattle.standard.proofs.Tags.{All}
 use Rattle.standard.proofs.Faults.{Variants}

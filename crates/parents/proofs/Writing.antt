@@ -13,7 +13,7 @@ use Rattle.standard.specs.Tag.{same}
 use Rattle.standard.specs.Identifier.{und}
 use Rattle.standard.proofs.Bytes.{clash}
 use Rattle.standard.specs.Delivery.{Bytes}
-use Rattle.standard.specs.Make.{listing}
+use Rattle.standard.specs.Table.{listing}
 use Rattle.standard.specs.Table.{lookup, rows, located}
 use Rattle.table.specs.declared.Found.{Found}
 use Rattle.table.specs.Lines.{foundIs, valueOr, isFound}

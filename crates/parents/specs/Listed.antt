@@ -7,7 +7,7 @@ use lib.Dec.{leb}
 use lib.ListN.{length}
 use lib.Seq.{sets}
 use Rattle.standard.specs.Delivery.{Bytes}
-use Rattle.standard.specs.Make.{listing}
+use Rattle.standard.specs.Table.{listing}
 use Rattle.parents.specs.declared.lines.Listed.{Listed}
 
 -- the lines listed from the place at on

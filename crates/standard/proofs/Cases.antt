@@ -16,8 +16,8 @@ use Rattle.standard.specs.Reading.{optional, rest, tags, joined, print, 
 use Rattle.standard.specs.Report.{Report, privateCount, reportOf, report}
 use Rattle.standard.specs.Delivery.{Bytes, Given, given}
 use Rattle.standard.specs.Chain.{allButLast, shorter, parentOf, parent, isUndAlone, chain, reaches}
-use Rattle.standard.specs.Table.{TableFault, Found, pieces, after, lookup, rows, locatedFrom, located, lower, inCanonicalCase, findInCase, threeOf, parse, printThree, isThree, parsed, tablesOf, isWord, languageIsUnd, isVariantTag, aliasShape, likelyShape, parentShape, isNone, unaliased, aliasFree, likelyFree, parentFree, keyOf, above, rowsFault, clashFault, tooBig, inTable, firstTable, check}
-use Rattle.standard.specs.Make.{operate, made, makeOf, make, identifier, printLine, listing, chainOf, listed, chainMade, chainFrom, afterCheck, canonicaliseMade, maximiseMade, minimiseMade, listMade, checkMade}
+use Rattle.standard.specs.Table.{TableFault, Found, pieces, after, lookup, rows, listing, locatedFrom, located, lower, inCanonicalCase, findInCase, threeOf, parse, printThree, isThree, parsed, tablesOf, isWord, languageIsUnd, isVariantTag, aliasShape, likelyShape, parentShape, isNone, unaliased, aliasFree, likelyFree, parentFree, keyOf, above, rowsFault, clashFault, tooBig, inTable, firstTable, tableNumber, shapeOf, freeOf, ifUsed, inUse, each, tested, sizeFault, shapeFault, freeFault, check}
+use Rattle.standard.specs.Make.{operate, made, makeOf, make, identifier, printLine, chainOf, listed, chainMade, chainFrom, afterCheck, canonicaliseMade, maximiseMade, minimiseMade, listMade, checkMade}
 
 -- the bytes of a text
 unfoldable pub bytes : String → Bytes
@@ -165,10 +165,10 @@ cases =
     []
 
 pub cases-hold : map got cases ≡ map want cases
-unfolding bytes table aliases likely parents lent refuses written expected want got cases given privateCount reportOf report locatedFrom located order same insertBy sortBy headTag pick present replace onto small capital digit separator lowerByte upperByte every title upper sizeOf startsWithDigit oneSize twoSize wrongLength languageSize isLanguage kind kindOf variantKind isVariant isSingleton isTwo isKeywordKey isFieldKey withTag grouped flat only others dropTrue arrangeKeywords arrangePart arrangeFields arrangeOne arrange languageAlias aliased canonicalVariants canonicalForm without withoutUnknown complete orElse row over overRow maximalThree trial sameThree hasThree minimalThree part parts size bounded withThree filled then canonical maximised minimised optional rest tags joined print split firstOf noBytes tooLong clean unclean badTag wrongSize member accept restFault start languageOnly partFault alone groupsFault wrongKeyword wrongValue fieldFault fieldsFault extensionFault privateFault isX upTo from noLanguage grammarFault faultOf ofKind find coreOf afterFirst identifierOf readAs read allButLast shorter parentOf parent isUndAlone chain reaches pieces after lookup rows lower inCanonicalCase findInCase threeOf parse printThree isThree parsed tablesOf isWord languageIsUnd isVariantTag aliasShape likelyShape parentShape isNone unaliased aliasFree likelyFree parentFree keyOf above rowsFault clashFault tooBig inTable firstTable check operate made makeOf make identifier printLine listing chainOf listed chainMade chainFrom afterCheck canonicaliseMade maximiseMade minimiseMade listMade checkMade
+unfolding bytes table aliases likely parents lent refuses written expected want got cases given privateCount reportOf report locatedFrom located order same insertBy sortBy headTag pick present replace onto small capital digit separator lowerByte upperByte every title upper sizeOf startsWithDigit oneSize twoSize wrongLength languageSize isLanguage kind kindOf variantKind isVariant isSingleton isTwo isKeywordKey isFieldKey withTag grouped flat only others dropTrue arrangeKeywords arrangePart arrangeFields arrangeOne arrange languageAlias aliased canonicalVariants canonicalForm without withoutUnknown complete orElse row over overRow maximalThree trial sameThree hasThree minimalThree part parts size bounded withThree filled then canonical maximised minimised optional rest tags joined print split firstOf noBytes tooLong clean unclean badTag wrongSize member accept restFault start languageOnly partFault alone groupsFault wrongKeyword wrongValue fieldFault fieldsFault extensionFault privateFault isX upTo from noLanguage grammarFault faultOf ofKind find coreOf afterFirst identifierOf readAs read allButLast shorter parentOf parent isUndAlone chain reaches pieces after lookup rows lower inCanonicalCase findInCase threeOf parse printThree isThree parsed tablesOf isWord languageIsUnd isVariantTag aliasShape likelyShape parentShape isNone unaliased aliasFree likelyFree parentFree keyOf above rowsFault clashFault tooBig inTable firstTable tableNumber shapeOf freeOf ifUsed inUse each tested sizeFault shapeFault freeFault check operate made makeOf make identifier printLine listing chainOf listed chainMade chainFrom afterCheck canonicaliseMade maximiseMade minimiseMade listMade checkMade
 cases-hold = refl
 
 -- document 01's tables pass, so that demand 3 holds of something
 pub tables-pass : Path (Option TableFault) (check true true aliases likely parents) none
-unfolding bytes table aliases likely parents order same insertBy sortBy headTag pick present replace onto small capital digit separator lowerByte upperByte every title upper sizeOf startsWithDigit oneSize twoSize wrongLength languageSize isLanguage kind kindOf variantKind isVariant isSingleton isTwo isKeywordKey isFieldKey withTag grouped flat only others dropTrue arrangeKeywords arrangePart arrangeFields arrangeOne arrange languageAlias aliased canonicalVariants canonicalForm without withoutUnknown complete orElse row over overRow maximalThree trial sameThree hasThree minimalThree part parts size bounded withThree filled then canonical maximised minimised optional rest tags joined print split firstOf noBytes tooLong clean unclean badTag wrongSize member accept restFault start languageOnly partFault alone groupsFault wrongKeyword wrongValue fieldFault fieldsFault extensionFault privateFault isX upTo from noLanguage grammarFault faultOf ofKind find coreOf afterFirst identifierOf readAs read allButLast shorter parentOf parent isUndAlone chain reaches pieces after lookup rows lower inCanonicalCase findInCase threeOf parse printThree isThree parsed tablesOf isWord languageIsUnd isVariantTag aliasShape likelyShape parentShape isNone unaliased aliasFree likelyFree parentFree keyOf above rowsFault clashFault tooBig inTable firstTable check operate made makeOf make identifier printLine listing chainOf listed chainMade chainFrom afterCheck canonicaliseMade maximiseMade minimiseMade listMade checkMade
+unfolding bytes table aliases likely parents order same insertBy sortBy headTag pick present replace onto small capital digit separator lowerByte upperByte every title upper sizeOf startsWithDigit oneSize twoSize wrongLength languageSize isLanguage kind kindOf variantKind isVariant isSingleton isTwo isKeywordKey isFieldKey withTag grouped flat only others dropTrue arrangeKeywords arrangePart arrangeFields arrangeOne arrange languageAlias aliased canonicalVariants canonicalForm without withoutUnknown complete orElse row over overRow maximalThree trial sameThree hasThree minimalThree part parts size bounded withThree filled then canonical maximised minimised optional rest tags joined print split firstOf noBytes tooLong clean unclean badTag wrongSize member accept restFault start languageOnly partFault alone groupsFault wrongKeyword wrongValue fieldFault fieldsFault extensionFault privateFault isX upTo from noLanguage grammarFault faultOf ofKind find coreOf afterFirst identifierOf readAs read allButLast shorter parentOf parent isUndAlone chain reaches pieces after lookup rows lower inCanonicalCase findInCase threeOf parse printThree isThree parsed tablesOf isWord languageIsUnd isVariantTag aliasShape likelyShape parentShape isNone unaliased aliasFree likelyFree parentFree keyOf above rowsFault clashFault tooBig inTable firstTable tableNumber shapeOf freeOf ifUsed inUse each tested sizeFault shapeFault freeFault check operate made makeOf make identifier printLine listing chainOf listed chainMade chainFrom afterCheck canonicaliseMade maximiseMade minimiseMade listMade checkMade
 tables-pass = refl

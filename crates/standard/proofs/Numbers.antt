@@ -15,8 +15,10 @@ use Rattle.standard.specs.Identifier.{Identifier, Tables, Answer, done, 
 use Rattle.standard.specs.Reading.{Fault, firstOf, noBytes, tooLong, clean, unclean, badTag, wrongSize, member, Stage, accept, restFault, start, languageOnly, partFault, alone, groupsFault, wrongKeyword, wrongValue, fieldFault, fieldsFault, extensionFault, privateFault, isX, upTo, from, noLanguage, grammarFault, faultOf, split, Read, good, bad, readAs, read, identifierOf}
 use Rattle.standard.specs.Delivery.{Bytes, Made, result, refusal, given}
 use Rattle.standard.specs.Calls.{Operation, canonicalise, maximise, minimise}
-use Rattle.standard.specs.Table.{TableFault, rowsFault, clashFault, tooBig, inTable, firstTable, check, pieces, keyOf, above}
+use Rattle.standard.specs.Table.{TableFault, rowsFault, clashFault, tooBig, inTable, sizeFault, shapeFault, freeFault, check, inUse, pieces, keyOf, above}
 use Rattle.standard.specs.Demand3.{ZeroOrTen}
+use Rattle.standard.proofs.Tags.{All}
+use Rattle.standard.proofs.Table.{tested-have}
 use Rattle.standard.specs.Make.{operate, made, makeOf, make, listed, chainMade, chainFrom, afterCheck, canonicaliseMade, maximiseMade, minimiseMade, listMade, whole}
 
 pub refusal-not : {n p t s : ℕ} {r : Bytes} {P : Type 0} → refusal n p t ≡ result r s → P
@@ -177,23 +179,16 @@ unfoldable pub TableWithin : Option TableFault → Type 0
 TableWithin none = Unit {0}
 TableWithin (some f) = (11 ≤ f .fault .number) × (f .fault .number ≤ 14)
 
-in-within : (u : Bool) (n : ℕ) (o : Option Fault) → Within 11 14 o → TableWithin (inTable u n o)
+in-within : (n : ℕ) (o : Option Fault) → Within 11 14 o → TableWithin (inTable n o)
 unfolding inTable Within TableWithin
-in-within false n o h = tt
-in-within true n none h = tt
-in-within true n (some f) h = h
-
-table-first : (a b : Option TableFault) → TableWithin a → TableWithin b → TableWithin (firstTable a b)
-unfolding firstTable TableWithin
-table-first none b h k = k
-table-first (some f) b h k = h
+in-within n none h = tt
+in-within n (some f) h = h
 
 pub check-within : (useL useP : Bool) (A L P : Bytes) → TableWithin (check useL useP A L P)
-unfolding check
+unfolding check All sizeFault shapeFault freeFault TableWithin
 check-within u w A L P =
-    table-first _ _ (in-within true 1 _ (big-within A)) (table-first _ _ (in-within u 2 _ (big-within L)) (table-first _ _ (in-within w 3 _ (big-within P))
-    (table-first _ _ (in-within true 1 _ (rows-within _ none 0 _)) (table-first _ _ (in-within u 2 _ (rows-within _ none 0 _)) (table-first _ _ (in-within w 3 _ (rows-within _ none 0 _))
-    (table-first _ _ (in-within true 1 _ (clash-within _ 0 _)) (table-first _ _ (in-within u 2 _ (clash-within _ 0 _)) (in-within w 3 _ (clash-within _ 0 _)))))))))
+    tested-have TableWithin tt _
+    ((λ t. in-within _ _ (big-within (t .lent))), ((λ t. in-within _ _ (rows-within _ none 0 _)), ((λ t. in-within _ _ (clash-within _ 0 _)), tt))) (inUse u w A L P)
 
 -- A refusal's number is neither 0 nor 10.
 unfoldable pub Proper : Made → Type 0

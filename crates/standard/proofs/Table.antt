@@ -13,8 +13,8 @@ use Rattle.standard.specs.Grammar.{title, upper, Kind, aScript, aRegion,
 use Rattle.standard.specs.Identifier.{Three, und, Tables, withoutUnknown, complete, sameThree, Kept, Good}
 use Rattle.standard.specs.Reading.{optional, joined, Fault, ofKind}
 use Rattle.standard.specs.Chain.{line, parentOf, parent, isUndAlone, reaches, GoodParents}
-use Rattle.standard.specs.Table.{pieces, after, lookup, rows, lower, inCanonicalCase, findInCase, threeOf, parse, printThree, isThree, languageKey, scriptKey, regionKey, variantKey, parsed, tablesOf, isWord, languageIsUnd, isVariantTag, aliasShape, likelyShape, parentShape, isNone, unaliased, aliasFree, likelyFree, parentFree, keyOf, above, rowsFault, clashFault, TableFault, inTable, firstTable, check}
-use Rattle.standard.proofs.Tags.{same-eq}
+use Rattle.standard.specs.Table.{pieces, after, lookup, rows, lower, inCanonicalCase, findInCase, threeOf, parse, printThree, isThree, languageKey, scriptKey, regionKey, variantKey, parsed, tablesOf, isWord, languageIsUnd, isVariantTag, aliasShape, likelyShape, parentShape, isNone, unaliased, aliasFree, likelyFree, parentFree, keyOf, above, rowsFault, clashFault, TableFault, inTable, firstTable, shapeOf, freeOf, Used, used, ifUsed, inUse, each, tested, sizeFault, shapeFault, freeFault, check}
+use Rattle.standard.proofs.Tags.{All, same-eq}
 use Rattle.standard.proofs.Core.{sameThree-eq}
 use Rattle.standard.proofs.Bytes.{clash, bool-cases, and-true, true→T, T→true, word}
 use Rattle.standard.proofs.Faults.{Maybe}
@@ -153,58 +153,92 @@ unfolding firstTable
 firstTable-none none b e = (refl, e)
 firstTable-none (some f) b e = absurd (Option·some-ne-none f e)
 
-pub inTable-none : (n : ℕ) (o : Option Fault) → inTable true n o ≡ none → o ≡ none
+pub inTable-none : (n : ℕ) (o : Option Fault) → inTable n o ≡ none → o ≡ none
 unfolding inTable
 inTable-none n none e = refl
 inTable-none n (some f) e = absurd (Option·some-ne-none _ e)
 
+pub firstTable-both : (a b : Option TableFault) → a ≡ none → b ≡ none → firstTable a b ≡ none
+unfolding firstTable
+firstTable-both a b e f = rw (e, f)
+
+-- Tests over tables: none finds a fault exactly if no test finds one in any table.
+module _ {X : Type 0} where
+  unfoldable pub Clear : (Used X → Option TableFault) → Used X → Type 0
+  Clear test u = test u ≡ none
+
+  pub each-none : (test : Used X → Option TableFault) (us : List (Used X)) → each test us ≡ none → All (Clear test) us
+  unfolding each All Clear
+  each-none test [] e = tt
+  each-none test (u ∷ us) e = let h = firstTable-none (test u) (each test us) e in (h .0, each-none test us (h .1))
+
+  pub each-clear : (test : Used X → Option TableFault) (us : List (Used X)) → All (Clear test) us → each test us ≡ none
+  unfolding each All Clear
+  each-clear test [] h = refl
+  each-clear test (u ∷ us) h = firstTable-both (test u) (each test us) (h .0) (each-clear test us (h .1))
+
+  unfoldable pub AllClear : List (Used X) → (Used X → Option TableFault) → Type 0
+  AllClear us test = All (Clear test) us
+
+  pub tested-none : (ts : List (Used X → Option TableFault)) (us : List (Used X)) → tested ts us ≡ none → All (AllClear us) ts
+  unfolding tested All AllClear
+  tested-none [] us e = tt
+  tested-none (t ∷ ts) us e = let h = firstTable-none (each t us) (tested ts us) e in (each-none t us (h .0), tested-none ts us (h .1))
+
+  pub tested-clear : (ts : List (Used X → Option TableFault)) (us : List (Used X)) → All (AllClear us) ts → tested ts us ≡ none
+  unfolding tested All AllClear
+  tested-clear [] us h = refl
+  tested-clear (t ∷ ts) us h = firstTable-both (each t us) (tested ts us) (each-clear t us (h .0)) (tested-clear ts us (h .1))
+
+  -- what all tests give, they give together
+  pub tested-have : (Q : Option TableFault → Type 0) → Q none → (ts : List (Used X → Option TableFault)) → All (λ (t : Used X → Option TableFault). (u : Used X) → Q (t u)) ts → (us : List (Used X)) → Q (tested ts us)
+  unfolding tested each All firstTable
+  tested-have Q q [] h us = q
+  tested-have Q q (t ∷ ts) h us = go (each t us) (one us) (tested-have Q q ts (h .1) us)
+    where
+      go : (o : Option TableFault) → Q o → Q (tested ts us) → Q (firstTable o (tested ts us))
+      go none a b = b
+      go (some f) a b = a
+
+      join : (o p : Option TableFault) → Q o → Q p → Q (firstTable o p)
+      join none p a b = b
+      join (some f) p a b = a
+
+      one : (vs : List (Used X)) → Q (each t vs)
+      one [] = q
+      one (v ∷ vs) = join (t v) (each t vs) (h .0 v) (one vs)
+
+  -- what holds of all three tables holds of those that are used
+  pub inUse-less : (Q : Used X → Type 0) (useL useP : Bool) (A L P : X) → All Q (inUse true true A L P) → All Q (inUse useL useP A L P)
+  unfolding inUse ifUsed All
+  inUse-less Q true true A L P h = h
+  inUse-less Q true false A L P h = (h .0, (h .1 .0, tt))
+  inUse-less Q false true A L P h = (h .0, (h .1 .1 .0, tt))
+  inUse-less Q false false A L P h = (h .0, tt)
+
 pub passed : (A L P : List ℕ) → check true true A L P ≡ none → Passed A L P
-unfolding check
+unfolding check inUse ifUsed All AllClear Clear shapeFault freeFault shapeOf freeOf
 passed A L P e =
-    let f₁ = firstTable-none _ _ e in
-    let f₂ = firstTable-none _ _ (f₁ .1) in
-    let f₃ = firstTable-none _ _ (f₂ .1) in
-    let f₄ = firstTable-none _ _ (f₃ .1) in
-    let f₅ = firstTable-none _ _ (f₄ .1) in
-    let f₆ = firstTable-none _ _ (f₅ .1) in
-    let f₇ = firstTable-none _ _ (f₆ .1) in
-    let f₈ = firstTable-none _ _ (f₇ .1) in
-    let a = rows-pass aliasShape none 0 (rows A) (inTable-none 1 _ (f₄ .0)) in
-    let l = rows-pass likelyShape none 0 (rows L) (inTable-none 2 _ (f₅ .0)) in
-    let p = rows-pass parentShape none 0 (rows P) (inTable-none 3 _ (f₆ .0)) in
+    let h = tested-none _ (inUse true true A L P) e in
+    let a = rows-pass aliasShape none 0 (rows A) (inTable-none _ _ (h .1 .0 .0)) in
+    let l = rows-pass likelyShape none 0 (rows L) (inTable-none _ _ (h .1 .0 .1 .0)) in
+    let p = rows-pass parentShape none 0 (rows P) (inTable-none _ _ (h .1 .0 .1 .1 .0)) in
     record {
       alias-shapes = a;
       likely-shapes = l;
       parent-shapes = p;
-      alias-free = clash-pass aliasShape (aliasFree (tablesOf A L P)) 0 (rows A) a (inTable-none 1 _ (f₇ .0));
-      likely-free = clash-pass likelyShape (likelyFree (tablesOf A L P)) 0 (rows L) l (inTable-none 2 _ (f₈ .0));
-      parent-free = clash-pass parentShape (parentFree (tablesOf A L P)) 0 (rows P) p (inTable-none 3 _ (f₈ .1));
+      alias-free = clash-pass aliasShape (aliasFree (tablesOf A L P)) 0 (rows A) a (inTable-none _ _ (h .1 .1 .0 .0));
+      likely-free = clash-pass likelyShape (likelyFree (tablesOf A L P)) 0 (rows L) l (inTable-none _ _ (h .1 .1 .0 .1 .0));
+      parent-free = clash-pass parentShape (parentFree (tablesOf A L P)) 0 (rows P) p (inTable-none _ _ (h .1 .1 .0 .1 .1 .0));
     }
 
 -- a check of some of the tables passes where the check of all does
-firstTable-both : (a b : Option TableFault) → a ≡ none → b ≡ none → firstTable a b ≡ none
-unfolding firstTable
-firstTable-both a b e f = rw (e, f)
-
-inTable-less : (u : Bool) (n : ℕ) (o : Option Fault) → inTable true n o ≡ none → inTable u n o ≡ none
-unfolding inTable
-inTable-less true n o e = e
-inTable-less false n o e = refl
-
 pub check-less : (useL useP : Bool) (A L P : List ℕ) → check true true A L P ≡ none → check useL useP A L P ≡ none
-unfolding check
+unfolding check All AllClear
 check-less u w A L P e =
-    let f₁ = firstTable-none _ _ e in
-    let f₂ = firstTable-none _ _ (f₁ .1) in
-    let f₃ = firstTable-none _ _ (f₂ .1) in
-    let f₄ = firstTable-none _ _ (f₃ .1) in
-    let f₅ = firstTable-none _ _ (f₄ .1) in
-    let f₆ = firstTable-none _ _ (f₅ .1) in
-    let f₇ = firstTable-none _ _ (f₆ .1) in
-    let f₈ = firstTable-none _ _ (f₇ .1) in
-    firstTable-both _ _ (f₁ .0) (firstTable-both _ _ (inTable-less u 2 _ (f₂ .0)) (firstTable-both _ _ (inTable-less w 3 _ (f₃ .0))
-    (firstTable-both _ _ (f₄ .0) (firstTable-both _ _ (inTable-less u 2 _ (f₅ .0)) (firstTable-both _ _ (inTable-less w 3 _ (f₆ .0))
-    (firstTable-both _ _ (f₇ .0) (firstTable-both _ _ (inTable-less u 2 _ (f₈ .0)) (inTable-less w 3 _ (f₈ .1)))))))))
+    let h = tested-none _ (inUse true true A L P) e in
+    tested-clear _ (inUse u w A L P)
+    (inUse-less (Clear sizeFault) u w A L P (h .0), (inUse-less (Clear shapeFault) u w A L P (h .1 .0), (inUse-less (Clear (freeFault (tablesOf A L P))) u w A L P (h .1 .1 .0), tt)))
 
 -- a test that asks for two fields, or two more
 record Two (ts : List Tag) : Type 0 where

@@ -10,7 +10,7 @@ use lib.ListN.{length}
 use borrow.Author.Tests.{le-leb, lt-leb}
 use Rattle.standard.specs.Reading.{Fault, fault}
 use Rattle.standard.proofs.Table.{firstTable-none}
-use Rattle.standard.specs.Table.{TableFault, rows, tablesOf, tooBig, rowsFault, clashFault, aliasShape, likelyShape, parentShape, aliasFree, likelyFree, parentFree, inTable, firstTable, check}
+use Rattle.standard.specs.Table.{TableFault, rows, tablesOf, tooBig, rowsFault, clashFault, aliasShape, likelyShape, parentShape, aliasFree, likelyFree, parentFree, inTable, firstTable, tableNumber, shapeOf as theShapeOf, freeOf as theFreeOf, ifUsed, inUse, each, tested, sizeFault, shapeFault, freeFault, check}
 use Rattle.standard.proofs.Bytes.{clash}
 use Rattle.table.specs.Search.{Sorted}
 use Rattle.rows.specs.declared.Table.{Table}
@@ -21,21 +21,21 @@ use Rattle.verdict.specs.declared.Verdict.{Verdict}
 use Rattle.verdict.specs.declared.Verdict.the-variants.{Good, Bad}
 use Rattle.verdict.specs.Free.{freeRow, freeOf}
 use Rattle.verdict.specs.declared.Test.the-variants.{Size, Shape}
-use Rattle.verdict.specs.Verdicts.{verdictIs, numberOf, faultBy, eachFault, clashesFault, Shaped}
+use Rattle.verdict.specs.Verdicts.{inTableIf, verdictIs, numberOf, faultBy, eachFault, clashesFault, Shaped}
 use Rattle.verdict.proofs.Clashes.{clash-is}
 
 -- A table that is used, or not.
 module _ (used : Bool) (n : ℕ) (o : Option Fault) where
-  pub unused : used ≡ false → none ≡ inTable used n o
-  unfolding inTable
+  pub unused : used ≡ false → none ≡ inTableIf used n o
+  unfolding inTableIf inTable
   unused e = rw e
 
-  pub in-none : used ≡ true → none ≡ o → none ≡ inTable used n o
-  unfolding inTable
+  pub in-none : used ≡ true → none ≡ o → none ≡ inTableIf used n o
+  unfolding inTableIf inTable
   in-none e f = rw (e, ← f)
 
-  pub in-some : (m p k : ℕ) → used ≡ true → fault m p ≡ o → k ≡ n → verdictIs (Bad m k p) ≡ inTable used n o
-  unfolding inTable
+  pub in-some : (m p k : ℕ) → used ≡ true → fault m p ≡ o → k ≡ n → verdictIs (Bad m k p) ≡ inTableIf used n o
+  unfolding inTableIf inTable
   in-some m p k e f g = rw (e, ← f, g)
 
 pub small : (t : List ℕ) → length t ≤ 32768 → none ≡ tooBig t
@@ -70,13 +70,21 @@ unfolding firstTable
 first-first none b c = refl
 first-first (some f) b c = refl
 
+first-none : (a : Option TableFault) → firstTable a none ≡ a
+unfolding firstTable
+first-none none = refl
+first-none (some f) = refl
+
 pub check-parts : (useL useP : Bool) (A L P : List ℕ) → firstTable (eachFault Size useL useP A L P) (firstTable (eachFault Shape useL useP A L P) (clashesFault useL useP A L P)) ≡ check useL useP A L P
-unfolding check eachFault faultBy shapeOf clashesFault
-check-parts useL useP A L P = simp first-first
+unfolding check eachFault faultBy shapeOf clashesFault inTableIf firstTable tableNumber theShapeOf theFreeOf ifUsed inUse each tested sizeFault shapeFault freeFault
+check-parts true true A L P = simp (first-first, first-none)
+check-parts true false A L P = simp (first-first, first-none)
+check-parts false true A L P = simp (first-first, first-none)
+check-parts false false A L P = simp (first-first, first-none)
 
 -- What the shapes give: sorted rows, each of its shape.
-in-table-none : (used : Bool) (n : ℕ) (o : Option Fault) → inTable used n o ≡ none → used ≡ true → o ≡ none
-unfolding inTable
+in-table-none : (used : Bool) (n : ℕ) (o : Option Fault) → inTableIf used n o ≡ none → used ≡ true → o ≡ none
+unfolding inTableIf inTable
 in-table-none false n o e f = clash f refl
 in-table-none true n none e f = refl
 in-table-none true n (some g) e f = let z : _≡_ {A = ℕ} 0 1 = cc in absurd (omega arith)
@@ -84,8 +92,8 @@ in-table-none true n (some g) e f = let z : _≡_ {A = ℕ} 0 1 = cc in absurd (
 pub shaped : (useL useP : Bool) (A L P : List ℕ) → eachFault Shape useL useP A L P ≡ none → Shaped useL useP A L P
 unfolding eachFault faultBy shapeOf
 shaped useL useP A L P e =
-    let f = firstTable-none (inTable true 1 (rowsFault aliasShape none 0 (rows A))) _ e in
-    let g = firstTable-none (inTable useL 2 (rowsFault likelyShape none 0 (rows L))) (inTable useP 3 (rowsFault parentShape none 0 (rows P))) (f .1) in
+    let f = firstTable-none (inTableIf true 1 (rowsFault aliasShape none 0 (rows A))) _ e in
+    let g = firstTable-none (inTableIf useL 2 (rowsFault likelyShape none 0 (rows L))) (inTableIf useP 3 (rowsFault parentShape none 0 (rows P))) (f .1) in
     record {
       aliases = in-table-none true 1 (rowsFault aliasShape none 0 (rows A)) (f .0) refl;
       likely = in-table-none useL 2 (rowsFault likelyShape none 0 (rows L)) (g .0);
@@ -94,22 +102,22 @@ shaped useL useP A L P e =
 
 -- 14 as the code tests it
 clash-table : (A L P t : List ℕ) (table : Table) (used : Bool) → (freeRow table A P ≡ freeRow table A t) → (used ≡ true → rowsFault (shapeOf table) none 0 (rows t) ≡ none)
-    → inTable used (numberOf table) (clashFault (freeRow table A t) 0 (rows t)) ≡ inTable used (numberOf table) (clashFault (freeOf table (tablesOf A L P)) 0 (rows t))
-unfolding inTable
+    → inTableIf used (numberOf table) (clashFault (freeRow table A t) 0 (rows t)) ≡ inTableIf used (numberOf table) (clashFault (freeOf table (tablesOf A L P)) 0 (rows t))
+unfolding inTableIf inTable
 clash-table A L P t table false q s = refl
 clash-table A L P t table true q s =
-    ap (inTable true (numberOf table)) (sym (clash-is A L P table 0 (rows t) (rows-pass table none 0 (rows t) (s refl)) ∙ ap (λ (f : List (List ℕ) → Bool). clashFault f 0 (rows t)) q))
+    ap (inTableIf true (numberOf table)) (sym (clash-is A L P table 0 (rows t) (rows-pass table none 0 (rows t) (s refl)) ∙ ap (λ (f : List (List ℕ) → Bool). clashFault f 0 (rows t)) q))
 
 module _ (useL useP : Bool) (A L P : List ℕ) (s : Shaped useL useP A L P) where
-  pub clash-aliases : inTable true (numberOf Aliases) (clashFault (freeRow Aliases A A) 0 (rows A)) ≡ inTable true 1 (clashFault (aliasFree (tablesOf A L P)) 0 (rows A))
+  pub clash-aliases : inTableIf true (numberOf Aliases) (clashFault (freeRow Aliases A A) 0 (rows A)) ≡ inTableIf true 1 (clashFault (aliasFree (tablesOf A L P)) 0 (rows A))
   unfolding freeRow freeOf
   clash-aliases = clash-table A L P A Aliases true refl (λ _. s .aliases)
 
-  pub clash-likely : inTable useL (numberOf Likely) (clashFault (freeRow Likely A L) 0 (rows L)) ≡ inTable useL 2 (clashFault (likelyFree (tablesOf A L P)) 0 (rows L))
+  pub clash-likely : inTableIf useL (numberOf Likely) (clashFault (freeRow Likely A L) 0 (rows L)) ≡ inTableIf useL 2 (clashFault (likelyFree (tablesOf A L P)) 0 (rows L))
   unfolding freeRow freeOf
   clash-likely = clash-table A L P L Likely useL refl (s .likely)
 
-  pub clash-parents : inTable useP (numberOf Parents) (clashFault (freeRow Parents A P) 0 (rows P)) ≡ inTable useP 3 (clashFault (parentFree (tablesOf A L P)) 0 (rows P))
+  pub clash-parents : inTableIf useP (numberOf Parents) (clashFault (freeRow Parents A P) 0 (rows P)) ≡ inTableIf useP 3 (clashFault (parentFree (tablesOf A L P)) 0 (rows P))
   unfolding freeRow freeOf
   clash-parents = clash-table A L P P Parents useP refl (s .parents)
 

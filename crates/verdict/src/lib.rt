@@ -14,12 +14,12 @@ ghost use mathlib.Core.Bool.{true, false};
 ghost use mathlib.Core.List.{[]};
 ghost use Prim.Native.Nat.{_≤_};
 ghost use lib.ListN.{length};
-ghost use Rattle.standard.specs.Table.{pieces, rows, parentShape, tooBig, rowsFault, clashFault, inTable, check as checkOf};
+ghost use Rattle.standard.specs.Table.{pieces, rows, parentShape, tooBig, rowsFault, clashFault, check as checkOf};
 ghost use Rattle.table.specs.Lines.{endOf};
 ghost use Rattle.table.specs.Hints.{Hinted, Indexed};
 ghost use Rattle.standard.proofs.Table.{Pass};
 ghost use mathlib.Core.Option.{none};
-ghost use Rattle.verdict.specs.Verdicts.{verdictIs, numberOf, faultBy, eachFault, clashesFault, Shaped};
+ghost use Rattle.verdict.specs.Verdicts.{inTableIf, verdictIs, numberOf, faultBy, eachFault, clashesFault, Shaped};
 ghost use Rattle.verdict.specs.Walk.{cut};
 ghost use Rattle.verdict.specs.Free.{isThrees, freeParent, freeRow, clashIs};
 ghost use Rattle.rows.specs.Rows.{shapeOf};
@@ -88,7 +88,7 @@ fn number(table: Table) -> u8
 
 // 11, of a table that is used.
 fn check_size(t: &[u8], table: Table, used: bool) -> Verdict
-    ensures { λ r. ⌜ verdictIs r ≡ inTable used (numberOf table) (tooBig (now (t .entry))) ⌝ }
+    ensures { λ r. ⌜ verdictIs r ≡ inTableIf used (numberOf table) (tooBig (now (t .entry))) ⌝ }
 {
     if !used {
         return Verdict::Good;
@@ -101,7 +101,7 @@ fn check_size(t: &[u8], table: Table, used: bool) -> Verdict
 
 // 12 and 13, of a table that is used.
 fn check_shape(t: &[u8], table: Table, used: bool) -> Verdict
-    ensures { λ r. ⌜ verdictIs r ≡ inTable used (numberOf table) (rowsFault (shapeOf table) none 0 (rows (now (t .entry)))) ⌝ }
+    ensures { λ r. ⌜ verdictIs r ≡ inTableIf used (numberOf table) (rowsFault (shapeOf table) none 0 (rows (now (t .entry)))) ⌝ }
 {
     if !used {
         return Verdict::Good;
@@ -117,7 +117,7 @@ fn check_shape(t: &[u8], table: Table, used: bool) -> Verdict
 // 14, of a table that is used.
 fn check_free(a: &[u8], hints: &[u16], t: &[u8], own: &[u16], table: Table, used: bool) -> Verdict
     requires { ⌜ Indexed (now a) (now hints) × (used ≡ true → rowsFault (shapeOf table) none 0 (rows (now t)) ≡ none) × Hinted (now t) (now own) ⌝ }
-    ensures { λ r. ⌜ verdictIs r ≡ inTable used (numberOf table) (clashFault (freeRow table (now (a .entry)) (now (t .entry))) 0 (rows (now (t .entry)))) ⌝ }
+    ensures { λ r. ⌜ verdictIs r ≡ inTableIf used (numberOf table) (clashFault (freeRow table (now (a .entry)) (now (t .entry))) 0 (rows (now (t .entry)))) ⌝ }
 {
     if !used {
         return Verdict::Good;
@@ -136,7 +136,7 @@ pub enum Test {
 }
 
 fn check_one(t: &[u8], table: Table, used: bool, test: Test) -> Verdict
-    ensures { λ r. ⌜ verdictIs r ≡ inTable used (numberOf table) (faultBy test table (now (t .entry))) ⌝ }
+    ensures { λ r. ⌜ verdictIs r ≡ inTableIf used (numberOf table) (faultBy test table (now (t .entry))) ⌝ }
 {
     match test {
         Test::Size => check_size(t, table, used),
@@ -162,7 +162,7 @@ fn check_each(a: &[u8], l: &[u8], p: &[u8], use_l: bool, use_p: bool, test: Test
 // 14, of the parents if they are used. Their walks look rows up in the table itself, by hints of its own.
 fn check_walks(a: &[u8], hints: &[u16], p: &[u8], used: bool) -> Verdict
     requires { ⌜ Indexed (now a) (now hints) × (used ≡ true → rowsFault parentShape none 0 (rows (now p)) ≡ none) ⌝ }
-    ensures { λ r. ⌜ verdictIs r ≡ inTable used 3 (clashFault (freeRow Table.Parents (now (a .entry)) (now (p .entry))) 0 (rows (now (p .entry)))) ⌝ }
+    ensures { λ r. ⌜ verdictIs r ≡ inTableIf used 3 (clashFault (freeRow Table.Parents (now (a .entry)) (now (p .entry))) 0 (rows (now (p .entry)))) ⌝ }
 {
     if !used {
         return Verdict::Good;

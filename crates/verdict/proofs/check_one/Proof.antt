@@ -1,6 +1,6 @@
 -- `verdict::check_one` meets its contract, test by test. Assumes nothing.
 use mathlib.Core.Path.{sym, ap, _∙_}
-use Rattle.standard.specs.Table.{inTable}
+use Rattle.verdict.specs.Verdicts.{inTableIf}
 use Rattle.verdict.specs.declared.Test.{Test}
 use Rattle.verdict.specs.Verdicts.{numberOf, faultBy}
 use borrow.Author.Needs.{needs}
@@ -23,13 +23,13 @@ returns : tie.Need-returns
 unfolding faultBy
 returns c =
     let a = c .before .before .before .before .args in
-    c .check-size .ensures ∙ ap (λ (q : Test). inTable (a .used) (numberOf (a .table)) (faultBy q (a .table) (a .t .now))) (sym (c .before .enum-told .given .1))
+    c .check-size .ensures ∙ ap (λ (q : Test). inTableIf (a .used) (numberOf (a .table)) (faultBy q (a .table) (a .t .now))) (sym (c .before .enum-told .given .1))
 
 returns-2 : tie.Need-returns-2
 unfolding faultBy
 returns-2 c =
     let a = c .before .before .before .before .args in
-    c .check-shape .ensures ∙ ap (λ (q : Test). inTable (a .used) (numberOf (a .table)) (faultBy q (a .table) (a .t .now))) (sym (c .before .enum-told2 .given .1))
+    c .check-shape .ensures ∙ ap (λ (q : Test). inTableIf (a .used) (numberOf (a .table)) (faultBy q (a .table) (a .t .now))) (sym (c .before .enum-told2 .given .1))
 
 pub check-one-spec : {M : Type 1} → statement M
 check-one-spec =
