@@ -2,17 +2,17 @@
 // identifier), and prints the bill. Bytes after the last 0A are a line unless there are none.
 use libc::STDIN_FILENO;
 use libc::STDOUT_FILENO;
-use month::Counts;
-use month::input;
-use opener::load;
+use bill_lines::Counts;
+use bill_lines::input;
+use program_io::load;
 ghost use mathlib.Core.Path.{_≡_};
 ghost use Prim.Native.Nat.{_≤_};
 ghost use lib.ListN.{length, take};
 ghost use Rattle.standard.specs.Delivery.{Bytes};
 ghost use Rattle.table.specs.Lines.{lines};
-ghost use Rattle.ledger.specs.Up.{Sized};
-ghost use Rattle.month.specs.Held.{Held};
-ghost use Rattle.month.specs.Text.{monthText};
+ghost use Rattle.bill_ledger.specs.Up.{Sized};
+ghost use Rattle.bill_lines.specs.Held.{Held};
+ghost use Rattle.bill_lines.specs.Text.{monthText};
 
 // Takes the input to its end into the bill: what it holds then is the bill of the lines of some bytes, those that were
 // read. A proved loop has to end, so it counts its turns down from a number that no run uses up.
@@ -59,22 +59,22 @@ fn make_text(aliases: &[u8], likely: &[u8], block: &mut [u8]) -> usize
     requires { ⌜ 65536 ≤ length (now block) ⌝ }
     ensures { λ r. ⌜ (r ≤ length (now (block .exit))) × ((x : Bytes) × (take r (now (block .exit)) ≡ monthText (now (aliases .entry)) (now (likely .entry)) (lines x))) ⌝ }
 {
-    let mut piece = opener::input::piece_buffer();
+    let mut piece = program_io::input::piece_buffer();
     let mut keys = key_room();
     let mut counts = count_room();
     let c = take_input(aliases, likely, block, &mut piece, &mut keys, &mut counts);
-    month::text::write(c, &keys, &counts, block)
+    bill_lines::text::write(c, &keys, &counts, block)
 }
 
 fn run(aliases: &[u8], likely: &[u8]) {
-    let mut block = opener::input::block_buffer();
+    let mut block = program_io::input::block_buffer();
     let len = make_text(aliases, likely, &mut block);
     io::write_all(STDOUT_FILENO, &block[..len]);
 }
 
 fn main() {
-    let mut a = opener::buffer();
-    let mut l = opener::buffer();
+    let mut a = program_io::buffer();
+    let mut l = program_io::buffer();
     let a_len = load(b"aliases.tsv", &mut a);
     let l_len = load(b"likely.tsv", &mut l);
     run(&a[..a_len], &l[..l_len]);

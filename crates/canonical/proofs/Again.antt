@@ -12,7 +12,7 @@ use Rattle.standard.specs.Tag.{Tag, onto, headTag}
 use Rattle.standard.specs.Grammar.{separator, small, capital, digit, lowerByte, wrongLength, sizeOf}
 use Rattle.standard.specs.Reading.{split, afterFirst, clean, unclean, badTag, wrongSize}
 use Rattle.subtag.specs.Subtags.{PlainBytes, PlainTag}
-use Rattle.arranging.specs.Section.{tagsOf, led, Led, Plain}
+use Rattle.subtag.specs.Sections.{tagsOf, led, Led, Plain}
 use Rattle.subtag.proofs.Walk.{split-sep, split-byte, split-cons, label-sep, after-sep}
 
 -- in lower case, with no separator

@@ -17,14 +17,14 @@ use Rattle.standard.proofs.Round.{Shaped}
 use Rattle.standard.proofs.Closed.{canon-printable}
 use Rattle.standard.proofs.Table.{shaped-tables}
 use Rattle.reader.specs.Parts.{partsOf}
-use Rattle.table.specs.Lines.{endOf}
+use Rattle.byte_string.specs.Strings.{endOf}
 use Rattle.canonical.specs.declared.three.Ends.{Ends}
-use Rattle.arranging.specs.Section.{led}
-use Rattle.canonical.specs.Alias.{replacedBy, aliasedPart}
-use Rattle.rows.specs.Shapes.{scriptEnd}
+use Rattle.subtag.specs.Sections.{led}
+use Rattle.aliases.specs.Replaced.{replacedBy, aliasedPart}
+use Rattle.row_shapes.specs.Shapes.{scriptEnd}
 use Rattle.canonical.specs.Three.{endsOf, afterSeparator, scriptStart, partBytes, languageLookup, languageWord, canonicalThree}
 use Rattle.canonical.proofs.Cuts.{part-led}
-use Rattle.canonical.proofs.Keyed.{front-in}
+use Rattle.aliases.proofs.Keyed.{front-in}
 use Rattle.canonical.proofs.Ready.{raw}
 use Rattle.canonical.proofs.Front.{Given, front}
 use Rattle.canonical.proofs.Words.{aliases-passed, three-led, Word, word, Ended, ended, script-size, region-size, led-five, led-four, language-size}

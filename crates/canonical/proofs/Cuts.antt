@@ -17,11 +17,11 @@ use Rattle.standard.proofs.Bytes.{bool-cases}
 use Rattle.standard.proofs.Arranged.{firstOf-none}
 use Rattle.reader.specs.Cuts.{Cuts, cutsAfter, cutsOf}
 use Rattle.subtag.specs.Bytes.{tidyByte}
-use Rattle.arranging.specs.Section.{tagsOf, led, Led, Plain}
+use Rattle.subtag.specs.Sections.{tagsOf, led, Led, Plain}
 use Rattle.subtag.proofs.Walk.{label-fits}
-use Rattle.arranging.proofs.Walk.{tidied, section-bytes, Rest, split-rest}
-use Rattle.arranging.proofs.Pending.{map-take}
-use Rattle.arranging.proofs.Boundary.{parted, plain-parts}
+use Rattle.canonical_order.proofs.Walk.{tidied, section-bytes, Rest, split-rest}
+use Rattle.canonical_order.proofs.Pending.{map-take}
+use Rattle.canonical_order.proofs.Boundary.{parted, plain-parts}
 use Rattle.canonical.proofs.Again.{plain-read}
 use Rattle.reader.proofs.Bodies.{body, heads}
 use Rattle.reader.proofs.Accepted.{Core, core-of, all-tags, has-first, others-of}

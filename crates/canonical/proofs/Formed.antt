@@ -21,16 +21,17 @@ use Rattle.standard.proofs.Faults.{Variants}
 use Rattle.standard.proofs.Closed.{canon-printable}
 use Rattle.standard.proofs.Table.{shaped-tables}
 use Rattle.subtag.specs.Bytes.{tidyByte}
-use Rattle.subtag.proofs.Stores.{wrote-two, mapped, all-from}
+use Rattle.byte_string.proofs.Stores.{wrote-two, mapped, all-from}
 use Rattle.reader.specs.Cuts.{cutsOf}
 use Rattle.reader.specs.Parts.{partsOf}
 use Rattle.canonical.specs.declared.three.Ends.{Ends}
 use Rattle.canonical.specs.declared.form.Form.{Form}
-use Rattle.arranging.specs.Section.{tagsOf, led, Led, Plain, Each, Arrangeable, isHead, arrangedTags}
+use Rattle.subtag.specs.Sections.{tagsOf, led, Led, Plain}
+use Rattle.canonical_order.specs.Section.{Each, Arrangeable, isHead, arrangedTags}
 use Rattle.canonical.specs.Three.{endsOf, canonicalThree}
 use Rattle.canonical.specs.Variants.{EachVariant}
 use Rattle.canonical.specs.Form.{formOf, hyphens, accepted}
-use Rattle.arranging.proofs.Walk.{section-bytes}
+use Rattle.canonical_order.proofs.Walk.{section-bytes}
 use Rattle.canonical.proofs.Print.{print-led, arranged}
 use Rattle.canonical.proofs.Again.{AllLow}
 use Rattle.canonical.proofs.Cuts.{parts-led, part-led, cut-size, parts-at, accepted as accepted-read}

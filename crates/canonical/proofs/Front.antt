@@ -24,7 +24,7 @@ use Rattle.reader.specs.declared.Start.the-variants.{Language, Script, Root}
 use Rattle.reader.specs.Cuts.{Cuts, languageCut, cutsAfter, cutsOf}
 use Rattle.reader.specs.Parts.{startOf, partsOf}
 use Rattle.reader.proofs.Accepted.{Core, of-language, of-root, of-script}
-use Rattle.arranging.specs.Section.{led, Plain}
+use Rattle.subtag.specs.Sections.{led, Plain}
 use Rattle.canonical.specs.Three.{between, afterSeparator, scriptStart, languageLookup}
 use Rattle.subtag.proofs.Raised.{raised-title, raised-upper}
 use Rattle.canonical.proofs.Places.{behind, at-once, start-first, start-later}

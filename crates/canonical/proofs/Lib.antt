@@ -2,8 +2,6 @@ pub mod Print
 pub mod Again
 pub mod Cuts
 pub mod Ready
-pub mod Raised
-pub mod Keyed
 pub mod Places
 pub mod Front
 pub mod Words
@@ -13,6 +11,4 @@ pub mod Merged
 pub mod Counts
 pub mod Formed
 pub mod Outcomes
-pub mod Canonicalised
-pub mod Delivers
-pub mod Wholes
+pub mod TestedAliases

@@ -19,15 +19,16 @@ use Rattle.standard.proofs.Sound.{ofKind-eq}
 use Rattle.standard.proofs.Table.{shaped-tables}
 use Rattle.subtag.specs.Subtags.{PlainTag}
 use Rattle.subtag.proofs.Keys.{word-plain}
-use Rattle.arranging.specs.Section.{tagsOf, led, Led, Plain, sortedBytes}
-use Rattle.canonical.specs.Alias.{aliasedPart}
+use Rattle.subtag.specs.Sections.{tagsOf, led, Led, Plain}
+use Rattle.canonical_order.specs.Section.{sortedBytes}
+use Rattle.aliases.specs.Replaced.{aliasedPart}
 use Rattle.canonical.specs.Variants.{resolved, EachVariant}
-use Rattle.arranging.proofs.Pending.{led-append, section-size}
-use Rattle.arranging.proofs.Boundary.{sorted-ones}
-use Rattle.arranging.proofs.Writes.{sorted-fits}
+use Rattle.canonical_order.proofs.Pending.{led-append, section-size}
+use Rattle.canonical_order.proofs.Boundary.{sorted-ones}
+use Rattle.canonical_order.proofs.Writes.{sorted-fits}
 use Rattle.canonical.proofs.Again.{Low, AllLow, led-begins, tags-led}
-use Rattle.arranging.proofs.Walk.{tags-end}
-use Rattle.canonical.proofs.Keyed.{front-in}
+use Rattle.canonical_order.proofs.Walk.{tags-end}
+use Rattle.aliases.proofs.Keyed.{front-in}
 use Rattle.canonical.proofs.Words.{aliases-passed}
 use Rattle.canonical.proofs.Cores.{aliased-part}
 

@@ -23,7 +23,7 @@ use Rattle.canonical.specs.declared.form.Form.{Form}
 use Rattle.canonical.specs.declared.form.Canon.{Canon}
 use Rattle.canonical.specs.declared.form.Canon.the-variants.{Formed, Overlong}
 use Rattle.canonical.specs.Form.{formOf, form, refusal, outcomeOf, formed, canonicalOf, outcome, accepted, unreadOf, FormFits}
-use Rattle.canonical.proofs.Keyed.{front-in}
+use Rattle.aliases.proofs.Keyed.{front-in}
 
 -- a refusal of reading
 refused-as : (T : Tables) (i : Identifier) (q : ReaderParts) (o : Option Fault) (n p : ℕ) → unread n p ≡ outcomeAs o q → refusal n p ≡ canonicalOf T (readAs o i)

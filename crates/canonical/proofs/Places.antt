@@ -7,7 +7,7 @@ use lib.ListN.{length, take, drop, length-take}
 use borrow.Author.Tests.{lt-ltb, le-ltb, eq-eqb, ne-eqb}
 use Rattle.standard.specs.Tag.{pick}
 use Rattle.subtag.specs.Bytes.{tidyByte, raised}
-use Rattle.canonical.specs.Alias.{aliasedPart}
+use Rattle.aliases.specs.Replaced.{aliasedPart}
 use Rattle.canonical.specs.Three.{afterSeparator, scriptStart, partBytes}
 
 pub behind : (at end : ℕ) → at < end → afterSeparator at end ≡ at + 1

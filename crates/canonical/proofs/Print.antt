@@ -11,8 +11,9 @@ use Rattle.standard.specs.Grammar.{oneSize, sizeOf, isSingleton, Groups, withTa
 use Rattle.standard.specs.Identifier.{Identifier}
 use Rattle.standard.specs.Reading.{optional, rest, tags, joined, print}
 use Rattle.subtag.specs.Subtags.{PlainTag}
-use Rattle.arranging.specs.Section.{tagsOf, led, Plain, isHead, arrangedTags}
-use Rattle.arranging.proofs.Pending.{led-append}
+use Rattle.subtag.specs.Sections.{tagsOf, led, Plain}
+use Rattle.canonical_order.specs.Section.{isHead, arrangedTags}
+use Rattle.canonical_order.proofs.Pending.{led-append}
 
 pub joined-led : (t : Tag) (ts : List Tag) → joined (t ∷ ts) ≡ t ++ led ts
 unfolding joined led

@@ -17,9 +17,10 @@ use Rattle.standard.proofs.Faults.{Rest, Variants, kind-variant}
 use Rattle.standard.proofs.Round.{Extension, all-impl, all-flat, lacks-variant}
 use Rattle.standard.proofs.Arranged.{Part, Fields, Checked}
 use Rattle.standard.proofs.Sound.{Raw, read-raw}
-use Rattle.arranging.specs.Section.{Plain, Longer, Each, Arrangeable, PartOk, FieldsOk, isHead, keyOrValue, everyTag}
-use Rattle.arranging.proofs.Pending.{grouped-all}
-use Rattle.arranging.proofs.Boundary.{two-size}
+use Rattle.subtag.specs.Sections.{Plain}
+use Rattle.canonical_order.specs.Section.{Longer, Each, Arrangeable, PartOk, FieldsOk, isHead, keyOrValue, everyTag}
+use Rattle.canonical_order.proofs.Pending.{grouped-all}
+use Rattle.canonical_order.proofs.Boundary.{two-size}
 use Rattle.canonical.proofs.Print.{grouped-singleton}
 
 single : (t : Tag) → isSingleton t ≡ true → length t ≡ 1

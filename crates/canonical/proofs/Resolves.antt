@@ -11,13 +11,13 @@ use Rattle.standard.specs.Table.{variantKey}
 use Rattle.subtag.specs.declared.Subtag.{Subtag}
 use Rattle.subtag.specs.Bytes.{tidyByte, raised}
 use Rattle.subtag.specs.Subtags.{subtagOf, PlainTag}
-use Rattle.subtag.proofs.Stores.{sets-append}
-use Rattle.arranging.specs.Section.{tagsOf, led, Led, Plain}
-use Rattle.canonical.specs.Alias.{aliasedPart}
+use Rattle.byte_string.proofs.Stores.{sets-append}
+use Rattle.subtag.specs.Sections.{tagsOf, led, Led, Plain}
+use Rattle.aliases.specs.Replaced.{aliasedPart}
 use Rattle.canonical.specs.Variants.{resolved}
-use Rattle.arranging.proofs.Walk.{tidied, tags-end}
-use Rattle.arranging.proofs.Picks.{Stepped, stepped}
-use Rattle.arranging.proofs.Pending.{map-take}
+use Rattle.canonical_order.proofs.Walk.{tidied, tags-end}
+use Rattle.canonical_order.proofs.Picks.{Stepped, stepped}
+use Rattle.canonical_order.proofs.Pending.{map-take}
 
 -- the bytes of the subtag at the front
 pub front-tidy : (y : List ℕ) (n : ℕ) → n ≡ length (headTag (split y)) → map tidyByte (take n y) ≡ headTag (split y)

@@ -21,14 +21,14 @@ use Rattle.standard.proofs.Round.{Shown, Shaped}
 use Rattle.standard.proofs.Sound.{shown-none}
 use Rattle.standard.proofs.Table.{Passed, passed, three-shaped, three-printed, language-value}
 use Rattle.subtag.proofs.Walk.{le-or-lt}
-use Rattle.table.specs.Lines.{endOf}
-use Rattle.arranging.specs.Section.{led}
-use Rattle.canonical.specs.Alias.{replacedBy}
-use Rattle.rows.specs.Shapes.{scriptEnd}
+use Rattle.byte_string.specs.Strings.{endOf}
+use Rattle.subtag.specs.Sections.{led}
+use Rattle.aliases.specs.Replaced.{replacedBy}
+use Rattle.row_shapes.specs.Shapes.{scriptEnd}
 use Rattle.standard.proofs.Whole.{narrow-aliases}
-use Rattle.rows.proofs.Ends.{script-ends}
+use Rattle.row_shapes.proofs.Ends.{script-ends}
 use Rattle.canonical.specs.Three.{between, afterSeparator}
-use Rattle.arranging.proofs.Pending.{led-append}
+use Rattle.canonical_order.proofs.Pending.{led-append}
 use Rattle.canonical.proofs.Print.{joined-led}
 use Rattle.canonical.proofs.Places.{behind, at-once}
 

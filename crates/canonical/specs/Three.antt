@@ -11,7 +11,7 @@ use Rattle.standard.specs.Reading.{split, identifierOf}
 use Rattle.standard.specs.Table.{lookup, rows, languageKey, tablesOf}
 use Rattle.subtag.specs.Bytes.{tidyByte, raised}
 use Rattle.canonical.specs.declared.three.Ends.{Ends}
-use Rattle.canonical.specs.Alias.{replacedBy, aliasedPart}
+use Rattle.aliases.specs.Replaced.{replacedBy, aliasedPart}
 
 -- where the three end when they are printed
 unfoldable pub endsOf : Three → Ends

@@ -5,7 +5,7 @@ use mathlib.Core.List.{List, [], _∷_, _++_}
 use Prim.Native.Nat.{ℕ}
 use Rattle.standard.specs.Tag.{Tag}
 use Rattle.standard.specs.Table.{variantKey, isVariantTag}
-use Rattle.canonical.specs.Alias.{aliasedPart}
+use Rattle.aliases.specs.Replaced.{aliasedPart}
 
 -- each variant replaced, with its separator
 unfoldable pub resolved : List ℕ → List Tag → List ℕ

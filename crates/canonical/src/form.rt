@@ -2,7 +2,7 @@
 // crate and of those above it come through here; none of them tests a table twice.
 use crate::three::write_three;
 use crate::variants::write_variants;
-use arranging::extensions::write_extensions;
+use canonical_order::extensions::write_extensions;
 use reader::Parts;
 use reader::Reading;
 use reader::read_parts;

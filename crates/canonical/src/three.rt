@@ -1,12 +1,12 @@
 // Language, script and region in canonical case, through the aliases, at the front of the canonical form.
-use crate::alias::put_replaced;
-use crate::alias::write_aliased;
+use aliases::replace::put_replaced;
+use aliases::replace::write_aliased;
 use reader::Parts;
 use reader::Start;
-use rows::three::script_end;
-use subtag::put;
+use row_shapes::three::script_end;
+use byte_string::put;
 use subtag::put_tidy;
-use table::end_of;
+use byte_string::end_of;
 ghost use mathlib.Core.Path.{_≡_};
 ghost use mathlib.Core.Option.{none};
 ghost use Prim.Native.Nat.{_+_, _-_, _≤_};

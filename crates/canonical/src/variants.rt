@@ -1,7 +1,7 @@
 // The variants of the canonical form: replaced one by one, then in ascending order, of equal ones the first.
-use crate::alias::write_aliased;
+use aliases::replace::write_aliased;
 use crate::buffer::buffer;
-use arranging::sorted::write_sorted;
+use canonical_order::sorted::write_sorted;
 use subtag::judge;
 ghost use mathlib.Core.Path.{_≡_};
 ghost use mathlib.Core.List.{[]};
@@ -11,7 +11,7 @@ ghost use lib.Seq.{sets};
 ghost use Rattle.standard.specs.Identifier.{canonicalVariants};
 ghost use Rattle.standard.specs.Table.{tablesOf};
 ghost use Rattle.table.specs.Hints.{Indexed};
-ghost use Rattle.arranging.specs.Section.{tagsOf, led, Led, Plain};
+ghost use Rattle.subtag.specs.Sections.{tagsOf, led, Led, Plain};
 ghost use Rattle.canonical.specs.Tested.{TestedWith};
 ghost use Rattle.canonical.specs.Variants.{resolved, EachVariant};
 

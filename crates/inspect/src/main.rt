@@ -1,7 +1,7 @@
 // Reads identifiers from standard input, one a line, and prints what reading reports of each. Bytes after the last 0A
 // are a line unless there are none. Of a line only the first 260 bytes are kept: with more than 255 it is refused.
 use libc::STDOUT_FILENO;
-use opener::input;
+use program_io::input;
 ghost use Prim.Native.Nat.{_+_, _≤_};
 ghost use lib.ListN.{length};
 
@@ -11,7 +11,7 @@ fn print_rows(piece: &[u8], out: &mut [u8])
 {
     let mut from: usize = 0;
     while from < piece.len() {
-        let w = inspection::rows_of(&piece[from..], out);
+        let w = inspect_rows::rows_of(&piece[from..], out);
         let len = w.len;
         io::write_all(STDOUT_FILENO, &out[..len]);
         from += w.used;

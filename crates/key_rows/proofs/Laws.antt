@@ -18,24 +18,23 @@ use Rattle.standard.proofs.Numbers.{Proper, TableWithin, check-within}
 use Rattle.standard.proofs.Table.{passed, good-tables, shaped-tables}
 use Rattle.standard.proofs.Whole.{narrow-likely}
 use Rattle.standard.proofs.Long.{read-long, read-short}
-use Rattle.canonical.specs.Answer.{answerOf, refusedAnswer, refusedTable}
-use Rattle.likely.specs.Both.{TestedBoth, operationOf}
-use Rattle.likely.specs.Answered.{givenAnswered}
-use Rattle.likely.specs.Whole.{answerBy}
-use Rattle.likely.proofs.Checked.{answer-given, minimised-proper}
-use Rattle.fields.specs.Fields.{askedOf}
-use Rattle.fields.proofs.Laws.{asked-two, asked-fits}
+use Rattle.operations.specs.Answer.{answerOf, refusedAnswer, refusedTable}
+use Rattle.operations.specs.Both.{TestedBoth, operationOf}
+use Rattle.operations.specs.Completed.{givenAnswered, answerBy}
+use Rattle.operations.proofs.CompleteChecked.{answer-given, minimised-proper}
+use Rattle.tsv.specs.Fields.{askedOf}
+use Rattle.tsv.proofs.Laws.{asked-two, asked-fits}
 use Rattle.lines.specs.Pieces.{rowsText, pieceText, pieceUsed}
 use Rattle.lines.specs.Squeeze.{handed, allLines, together}
 use Rattle.lines.proofs.Pieces.{rest-rows, used-some, first-enough, rows-handed}
 use Rattle.table.specs.Lines.{lines}
-use Rattle.verdict.specs.declared.Verdict.{Verdict}
-use Rattle.verdict.specs.declared.Verdict.the-variants.{Bad}
-use Rattle.verdict.specs.Verdicts.{verdictIs}
+use Rattle.table_check.specs.declared.Verdict.{Verdict}
+use Rattle.table_check.specs.declared.Verdict.the-variants.{Bad}
+use Rattle.table_check.specs.Verdicts.{verdictIs}
 use Rattle.key_rows.specs.declared.Keyed.{Keyed}
 use Rattle.key_rows.specs.Keys.{numberOf, keptOf, answerText, madeKey, keyRow, keptText, Answer, rowsGiven, afterTables, keysGiven, keyedIs}
-use Rattle.canonical.specs.declared.delivery.Answer.{Answer as Answered}
-use Rattle.likely.specs.declared.tested.Answered.{Answered as Outcome}
+use Rattle.operations.specs.declared.delivery.Answer.{Answer as Answered}
+use Rattle.operations.specs.declared.complete.Answered.{Answered as Outcome}
 
 -- A line of more than 255 bytes is refused with 2.
 made-long : (A L x : Bytes) → 255 < length x → madeKey A L x ≡ refusal 2 0 0

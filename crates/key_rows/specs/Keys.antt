@@ -9,7 +9,7 @@ use Rattle.standard.specs.Delivery.{Bytes, Made, result, refusal}
 use Rattle.standard.specs.Calls.{minimise}
 use Rattle.standard.specs.Table.{TableFault, tablesOf, check}
 use Rattle.standard.specs.Make.{make}
-use Rattle.fields.specs.Fields.{decimal, field, askedOf}
+use Rattle.tsv.specs.Fields.{decimal, field, askedOf}
 use Rattle.lines.specs.Pieces.{pieceText, pieceUsed}
 use Rattle.key_rows.specs.declared.Keyed.{Keyed}
 

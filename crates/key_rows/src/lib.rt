@@ -1,24 +1,24 @@
 // The rows of the program `keys`: of each line what was asked, the number and the minimised form. The tables are tested
 // once for a whole piece of lines.
-use canonical::delivery::refused_table;
-use fields::put;
-use fields::put_asked;
-use fields::put_number;
-use likely::tested::form_hinted;
-use likely::whole::answer;
+use operations::delivery::refused_table;
+use tsv::put;
+use tsv::put_asked;
+use tsv::put_number;
+use operations::complete::form_hinted;
+use operations::complete::answer;
 use lines::next_line;
-use table::end_of;
+use byte_string::end_of;
 use table::hints::fill_hints;
 use table::hints::many;
-use verdict::Verdict;
-use verdict::check_likely;
+use table_check::Verdict;
+use table_check::check_likely;
 ghost use mathlib.Core.Path.{_≡_};
 ghost use Prim.Native.Nat.{_+_, _≤_};
 ghost use lib.ListN.{length, take};
 ghost use lib.Seq.{sets};
-ghost use Rattle.fields.specs.Fields.{field, askedOf};
+ghost use Rattle.tsv.specs.Fields.{field, askedOf};
 ghost use Rattle.table.specs.Hints.{Hinted};
-ghost use Rattle.likely.specs.Both.{TestedBoth};
+ghost use Rattle.operations.specs.Both.{TestedBoth};
 ghost use Rattle.key_rows.specs.Keys.{answerText, keptText, keyRow, keysGiven, keyedIs};
 
 // Number, table and place of the tables' refusal; how many bytes of the piece were answered, and the length of their rows.

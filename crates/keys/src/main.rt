@@ -2,8 +2,8 @@
 // each what was asked, the number and the minimised form, parted by tabs. Bytes after the last 0A are a line unless there
 // are none. A bad table gives, after the header, its line and nothing else.
 use libc::STDOUT_FILENO;
-use opener::input;
-use opener::load;
+use program_io::input;
+use program_io::load;
 ghost use mathlib.Core.Path.{_≡_};
 ghost use Prim.Native.Nat.{_+_, _≤_};
 ghost use lib.ListN.{length};
@@ -17,7 +17,7 @@ fn print_rows(piece: &[u8], aliases: &[u8], likely: &[u8], out: &mut [u8]) -> bo
     loop {
         let k = key_rows::rows_of(&piece[from..], aliases, likely, out);
         if k.number != 0 {
-            opener::print_table(k.number, k.table, k.place);
+            program_io::print_table(k.number, k.table, k.place);
             return false;
         }
         let len = k.len;
@@ -59,8 +59,8 @@ fn run(aliases: &[u8], likely: &[u8]) {
 
 fn main() {
     io::write_all(STDOUT_FILENO, b"asked\tnumber\tkept\n");
-    let mut a = opener::buffer();
-    let mut l = opener::buffer();
+    let mut a = program_io::buffer();
+    let mut l = program_io::buffer();
     let a_len = load(b"aliases.tsv", &mut a);
     let l_len = load(b"likely.tsv", &mut l);
     run(&a[..a_len], &l[..l_len]);

@@ -11,7 +11,7 @@ use lib.ListN.{length, take, drop, length-append}
 use lib.Seq.{sets, sets-eq}
 use Rattle.standard.specs.Delivery.{Bytes, Made, refusal, form, Given, given}
 use Rattle.standard.proofs.Bytes.{bool-cases}
-use Rattle.subtag.proofs.Stores.{sets-append}
+use Rattle.byte_string.proofs.Stores.{sets-append}
 use Rattle.standard.specs.Tag.{pick}
 use Rattle.likely.specs.Kept.{keptParts}
 use Rattle.likely.specs.declared.three.Kept.{Kept}

@@ -11,9 +11,8 @@ use Rattle.standard.specs.Tag.{Tag, order, same, pick, present, replace}
 use Rattle.standard.specs.Identifier.{Three, three, und, zzzz, zz, Tables, without, withoutUnknown, complete, orElse, row, over, overRow, maximalThree, trial, sameThree, hasThree, minimalThree, Kept}
 use Rattle.standard.specs.Reading.{optional, joined}
 use Rattle.standard.specs.Delivery.{Bytes}
-use Rattle.standard.specs.Table.{lookup, rows, parse, parsed, printThree, tablesOf, isThree}
+use Rattle.standard.specs.Table.{lookup, rows, parse, parsed, printThree, tablesOf, isThree, check}
 use Rattle.standard.specs.Grammar.{title, upper, aScript}
-use Rattle.standard.specs.Table.{check}
 use Rattle.standard.proofs.Tags.{same-refl}
 use Rattle.standard.proofs.Core.{Full, kept-fixed}
 use Rattle.standard.proofs.Dashes.{NoDash, printed-dash}

@@ -17,7 +17,7 @@ use Rattle.standard.specs.Table.{lookup, rows, located}
 use Rattle.standard.proofs.Bytes.{clash, and-true, bool-cases}
 use Rattle.table.specs.Lines.{valueOf, valueOr, isFound}
 use Rattle.table.proofs.Lines.{value-located, found-located}
-use Rattle.subtag.proofs.Stores.{sets-append}
+use Rattle.byte_string.proofs.Stores.{sets-append}
 use Rattle.likely.specs.Kept.{keptParts}
 use Rattle.likely.specs.declared.three.Kept.the-variants.{Neither, Region, Script, Both}
 use Rattle.likely.specs.Parts.{Parts, Ready, dashFrom, dash, cutAt, cutParts, overParts, overValue, fillParts, filledBy, fitsValue, fitsParts, minimalParts, knownPart, languageOf, completeParts, parts3, orValue, shorterValue, rowValue}

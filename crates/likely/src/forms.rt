@@ -6,7 +6,7 @@ use crate::three::Kept;
 use crate::three::cuts_of;
 use crate::three::minimal;
 use crate::three::row_for;
-use subtag::put;
+use byte_string::put;
 ghost use mathlib.Core.Path.{_≡_};
 ghost use Prim.Native.Nat.{_+_, _≤_};
 ghost use lib.ListN.{length};

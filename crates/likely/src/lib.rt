@@ -3,6 +3,4 @@
 pub mod forms;
 mod parts;
 mod rows;
-pub mod tested;
 mod three;
-pub mod whole;

@@ -8,7 +8,7 @@ ghost use Rattle.likely.specs.Parts.{knownPart, dash, completeParts, lan
 pub fn known<'a>(part: &'a [u8], unknown: &[u8]) -> &'a [u8]
     ensures { λ r. ⌜ now r ≡ knownPart (now (unknown .entry)) (now (part .entry)) ⌝ }
 {
-    if subtag::same(part, unknown) {
+    if byte_string::same(part, unknown) {
         return &part[..0];
     }
     part
@@ -29,16 +29,16 @@ pub fn first_is(first: &[u8], other: &[u8], part: &[u8]) -> bool
     ensures { λ r. ⌜ r ≡ same (pick (now (first .entry)) (now (other .entry))) (now (part .entry)) ⌝ }
 {
     if first.len() == 0 {
-        return subtag::same(other, part);
+        return byte_string::same(other, part);
     }
-    subtag::same(first, part)
+    byte_string::same(first, part)
 }
 
 // The language, or the other where it is `und`.
 pub fn language_of<'a>(language: &'a [u8], other: &'a [u8]) -> &'a [u8]
     ensures { λ r. ⌜ now r ≡ languageOf (now (language .entry)) (now (other .entry)) ⌝ }
 {
-    if subtag::same(language, b"und") {
+    if byte_string::same(language, b"und") {
         return other;
     }
     language
@@ -48,7 +48,7 @@ pub fn language_of<'a>(language: &'a [u8], other: &'a [u8]) -> &'a [u8]
 pub fn is_complete(language: &[u8], script: &[u8], region: &[u8]) -> bool
     ensures { λ r. ⌜ r ≡ completeParts (record { language = now (language .entry); script = now (script .entry); region = now (region .entry) }) ⌝ }
 {
-    if subtag::same(language, b"und") {
+    if byte_string::same(language, b"und") {
         return false;
     }
     if script.len() == 0 {

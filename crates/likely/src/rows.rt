@@ -1,5 +1,5 @@
 // Rows of a likely table that passed the check, found by parts of the three subtags.
-use subtag::put;
+use byte_string::put;
 ghost use mathlib.Core.Path.{_≡_};
 ghost use mathlib.Core.List.{_++_};
 ghost use Prim.Native.Nat.{_+_, _≤_};

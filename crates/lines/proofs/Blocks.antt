@@ -5,7 +5,7 @@ use Prim.Native.Nat.{ℕ, _+_, _-_, _≤_}
 use native.Mathlib.Omega.{arith}
 use lib.ListN.{length, take, drop, length-append, length-drop}
 use lib.Seq.{sets, sets-eq, take-at, take-append-le, drop-append-le, length-sets, length-take-le}
-use Rattle.subtag.proofs.Stores.{written}
+use Rattle.byte_string.proofs.Stores.{written}
 use Rattle.table.specs.Lines.{lines}
 use Rattle.lines.specs.Squeeze.{Bytes, squeezed, runAfter, takenIn, wholeLength, handedOver, unfinished, allLines, together, Carries}
 

@@ -12,7 +12,7 @@ use lib.Seq.{sets, take-all, take-at, drop-at, drop-cons, length-sets, length-ta
 use borrow.Author.Tests.{eq-eqb, ne-eqb, lt-ltb, le-ltb, eqb-true, eqb-false}
 use Rattle.standard.specs.Tag.{onto}
 use Rattle.standard.proofs.Bytes.{bool-cases}
-use Rattle.subtag.proofs.Stores.{sets-append, plain-next, sets-behind}
+use Rattle.byte_string.proofs.Stores.{sets-append, plain-next, sets-behind}
 use Rattle.subtag.proofs.Walk.{le-or-lt}
 use Rattle.table.specs.Lines.{lines}
 use Rattle.lines.specs.Squeeze.{Bytes, nextRun, kept, squeezed, runAfter, takenIn, wholeLength, handedOver, unfinished, handed, allLines, together}

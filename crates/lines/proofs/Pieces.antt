@@ -7,10 +7,12 @@ use native.Mathlib.Omega.{arith}
 use lib.ListN.{length, take, drop, length-append, length-drop, drop-of-length-le}
 use lib.Seq.{sets, drop-drop, length-sets, length-take-le, take-all}
 use borrow.Author.Tests.{le-leb, lt-leb}
-use Rattle.subtag.proofs.Stores.{sets-append}
+use Rattle.byte_string.proofs.Stores.{sets-append}
 use Rattle.subtag.proofs.Walk.{le-or-lt}
-use Rattle.table.specs.Lines.{lines, endOf}
-use Rattle.table.proofs.Lines.{lines-at, end-le, end-ge}
+use Rattle.table.specs.Lines.{lines}
+use Rattle.byte_string.specs.Strings.{endOf}
+use Rattle.table.proofs.Lines.{lines-at}
+use Rattle.byte_string.proofs.Ends.{end-le, end-ge}
 use Rattle.lines.specs.Squeeze.{Bytes, handed, allLines, together}
 use Rattle.lines.proofs.Laws.{all-lines}
 use Rattle.lines.specs.Pieces.{rowsText, answered, span, pieceText, atMost, pieceUsed, Next}

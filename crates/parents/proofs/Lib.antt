@@ -1,5 +1,4 @@
 pub mod Laws
 pub mod Writing
-pub mod Chained
-pub mod Checked
-pub mod Sizes
+pub mod Walks
+pub mod OwnRows

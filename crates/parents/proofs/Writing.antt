@@ -13,12 +13,11 @@ use Rattle.standard.specs.Tag.{same}
 use Rattle.standard.specs.Identifier.{und}
 use Rattle.standard.proofs.Bytes.{clash}
 use Rattle.standard.specs.Delivery.{Bytes}
-use Rattle.standard.specs.Table.{listing}
-use Rattle.standard.specs.Table.{lookup, rows, located}
+use Rattle.standard.specs.Table.{listing, lookup, rows, located}
 use Rattle.table.specs.declared.Found.{Found}
 use Rattle.table.specs.Lines.{foundIs, valueOr, isFound}
 use Rattle.table.proofs.Lines.{cut-value, cut-found, value-located, found-located}
-use Rattle.subtag.proofs.Stores.{sets-append}
+use Rattle.byte_string.proofs.Stores.{sets-append}
 use Rattle.parents.specs.declared.lines.Listed.{Listed}
 use Rattle.parents.specs.Texts.{lastBelow, lastDash, withoutLast, rowText, parentBy, parentText, chainText}
 use Rattle.parents.specs.Listed.{Bounded, Lists, listedOf, outAfter, added, outAdded}

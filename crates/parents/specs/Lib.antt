@@ -1,4 +1,3 @@
 pub mod Texts
 pub mod Listed
-pub mod Answered
-pub mod Whole
+pub mod Walk

@@ -1,4 +1,3 @@
-// The chain of parents: an identifier without extensions, its parent, and so on to `und`, one a line.
-mod lines;
-pub mod tested;
-pub mod whole;
+// Inner: the parent table, tested. The walk of the check over texts of the table (`walk`), and the lines of a chain (`lines`).
+pub mod lines;
+pub mod walk;

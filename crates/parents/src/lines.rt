@@ -1,6 +1,6 @@
 // The lines of a chain. The last call of the walk knows how long the listing is; it is written on the way back, and only
 // where all of it fits.
-use subtag::put;
+use byte_string::put;
 ghost use mathlib.Core.Path.{_≡_};
 ghost use mathlib.Core.Bool.{true};
 ghost use mathlib.Core.List.{[], _∷_, _++_};
@@ -148,7 +148,7 @@ pub fn list<'a>(
     if allowed == 0 {
         return last_line(id, out, at);
     }
-    if subtag::same(id, root) {
+    if byte_string::same(id, root) {
         return last_line(id, out, at);
     }
     let next = at + id.len() + 1;

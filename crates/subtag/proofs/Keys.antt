@@ -18,7 +18,7 @@ use Rattle.standard.proofs.Shapes.{Word}
 use Rattle.subtag.specs.Subtags.{packed, keyOf, PlainBytes, PlainTag}
 use Rattle.subtag.proofs.Bytes.{small-in, digit-in}
 use Rattle.subtag.proofs.Walk.{split-sep, split-byte}
-use Rattle.subtag.proofs.Orders.{compare-lt, compare-gt, compare-same, compare-less, compare-more, compare-equal}
+use Rattle.byte_string.proofs.Orders.{compare-lt, compare-gt, compare-same, compare-less, compare-more, compare-equal}
 
 -- a number of one digit more, by its highest digit
 less-digit : (x y P p q : ℕ) → x < y → p < P → x * P + p < y * P + q

@@ -12,7 +12,7 @@ use borrow.Author.Tests.{lt-ltb, le-ltb, ltb-true, ltb-false}
 use Rattle.standard.specs.Tag.{Tag}
 use Rattle.standard.specs.Grammar.{upperByte, title, upper}
 use Rattle.subtag.specs.Bytes.{raised, raisedByte}
-use Rattle.subtag.proofs.Stores.{sets-append, map-append}
+use Rattle.byte_string.proofs.Stores.{sets-append, map-append}
 
 pub raised-length : (n : ℕ) (t : Tag) → length (raised n t) ≡ length t
 unfolding raised

@@ -1,3 +1,4 @@
 pub mod Bytes
 pub mod Subtags
 pub mod Kinds
+pub mod Sections

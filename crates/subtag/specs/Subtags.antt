@@ -2,13 +2,11 @@
 -- Assumes nothing.
 use mathlib.Core.Bool.{Bool, cond}
 use mathlib.Core.List.{[], _∷_}
-use Prim.Native.Nat.{ℕ, zero, suc, _+_, _*_, _^_, _≤_, _<_, Ordering, Ordering·lt, Ordering·eq, Ordering·gt}
+use Prim.Native.Nat.{ℕ, zero, suc, _+_, _*_, _^_, _≤_, _<_}
 use lib.ListN.{length}
 use Rattle.standard.specs.Tag.{Tag}
 use Rattle.standard.specs.Grammar.{small, digit}
 use Rattle.subtag.specs.declared.Subtag.{Subtag}
-use Rattle.subtag.specs.declared.Order.{Order}
-use Rattle.subtag.specs.declared.Order.the-variants.{Less, Equal, Greater}
 
 -- how many bytes pass the test
 unfoldable pub count : (ℕ → Bool) → Tag → ℕ
@@ -39,9 +37,3 @@ PlainBytes (b ∷ bs) = (0 < b) × (b < 255) × PlainBytes bs
 
 unfoldable pub PlainTag : Tag → Type 0
 PlainTag t = (0 < length t) × (length t ≤ 8) × PlainBytes t
-
--- the standard's order that an answer stands for
-abbrev pub orderOf : Order → Ordering
-orderOf Less = Ordering·lt
-orderOf Equal = Ordering·eq
-orderOf Greater = Ordering·gt

@@ -5,11 +5,11 @@ ghost use mathlib.Core.List.{map};
 ghost use Prim.Native.Nat.{_+_, _≤_, _<_};
 ghost use lib.ListN.{length};
 ghost use lib.Seq.{sets};
-ghost use Rattle.standard.specs.Tag.{headTag, order, same as sameTag};
+ghost use Rattle.standard.specs.Tag.{headTag};
 ghost use Rattle.standard.specs.Grammar.{lowerByte, upperByte, separator, small, capital, digit as digitByte};
 ghost use Rattle.standard.specs.Reading.{split};
 ghost use Rattle.subtag.specs.Bytes.{classOf, isSeparator, letterOf, digitOf, tidyByte, raised, raisedByte};
-ghost use Rattle.subtag.specs.Subtags.{firstByte, subtagOf, orderOf};
+ghost use Rattle.subtag.specs.Subtags.{firstByte, subtagOf};
 ghost use Rattle.subtag.specs.Kinds.{languageFrom, kindFrom, kindIs, keywordFrom, fieldFrom};
 
 // What a byte can be.
@@ -182,19 +182,6 @@ pub fn judge(rest: &[u8]) -> Subtag
     }
 }
 
-// Writes src at the place at, and gives the next place.
-pub fn put(src: &[u8], out: &mut [u8], at: usize) -> usize
-    requires { ⌜ at + length (now src) ≤ length (now out) ⌝ }
-    ensures { λ r. ⌜ (r ≡ at + length (now (src .entry))) × (now (out .exit) ≡ sets (now (out .entry)) at (now (src .entry))) ⌝ }
-{
-    let mut i = 0;
-    while i < src.len() {
-        out[at + i] = src[i];
-        i += 1;
-    }
-    at + i
-}
-
 // Writes src at the place at, in lower case and with the separator '-', and gives the next place.
 pub fn put_tidy(src: &[u8], out: &mut [u8], at: usize) -> usize
     requires { ⌜ at + length (now src) ≤ length (now out) ⌝ }
@@ -229,48 +216,6 @@ pub fn put_raised(src: &[u8], count: usize, out: &mut [u8], at: usize) -> usize
         i += 1;
     }
     at + i
-}
-
-// Are the two byte strings equal?
-pub fn same(a: &[u8], b: &[u8]) -> bool
-    ensures { λ r. ⌜ r ≡ sameTag (now (a .entry)) (now (b .entry)) ⌝ }
-{
-    let o = compare(a, b);
-    match o {
-        Order::Less => false,
-        Order::Equal => true,
-        Order::Greater => false,
-    }
-}
-
-// How two byte strings compare.
-pub enum Order {
-    Less,
-    Equal,
-    Greater,
-}
-
-// a against b, by unsigned bytes from the front.
-pub fn compare(a: &[u8], b: &[u8]) -> Order
-    ensures { λ r. ⌜ orderOf r ≡ order (now (a .entry)) (now (b .entry)) ⌝ }
-{
-    let mut i = 0;
-    while i < a.len() {
-        if b.len() <= i {
-            return Order::Greater;
-        }
-        if a[i] < b[i] {
-            return Order::Less;
-        }
-        if b[i] < a[i] {
-            return Order::Greater;
-        }
-        i += 1;
-    }
-    if i < b.len() {
-        return Order::Less;
-    }
-    Order::Equal
 }
 
 // What a subtag after the language can be; no two at once.

@@ -14,10 +14,12 @@ use lib.Seq.{drop-cons, getD-set-same, getD-set-other, take-suc}
 use borrow.Author.Tests.{eq-eqb, ne-eqb, lt-ltb, le-ltb, eqb-true}
 use Rattle.standard.specs.Table.{Found as Located, located}
 use Rattle.subtag.proofs.Walk.{le-or-lt}
-use Rattle.table.specs.Lines.{endOf, starts, noRow, rowAt}
+use Rattle.byte_string.specs.Strings.{endOf}
+use Rattle.table.specs.Lines.{starts, noRow, rowAt}
 use Rattle.table.specs.Search.{Opens, rowFrom}
 use Rattle.table.specs.Hints.{slotStep, slotFrom, slotOf, placeOf, hintAt, Blank, RowAt, OpensIs, Seen, Right, Leads, Hinted, hintOf, hintsPast, startPast, slotPast}
-use Rattle.table.proofs.Lines.{end-ge, end-le, row-start, row-past, row-miss, row-hit, row-room}
+use Rattle.byte_string.proofs.Ends.{end-ge, end-le}
+use Rattle.table.proofs.Lines.{row-start, row-past, row-miss, row-hit, row-room}
 use Rattle.table.proofs.Searches.{Cmp, lt, eq, gt, cmp, clash, opens-after, opens-before, end-in, end-byte, end-opens}
 
 -- The first row with the key from the line at i on, if there is one.

@@ -14,9 +14,11 @@ use borrow.Author.Tests.{eq-eqb, ne-eqb, lt-ltb, le-ltb, ltb-true, ltb-false, eq
 use Rattle.standard.specs.Tag.{onto}
 use Rattle.standard.specs.Identifier.{parts}
 use Rattle.standard.specs.Table.{located, locatedFrom}
-use Rattle.table.specs.Lines.{endOf, lines, starts, noRow}
+use Rattle.byte_string.specs.Strings.{endOf}
+use Rattle.table.specs.Lines.{lines, starts, noRow}
 use Rattle.table.specs.Search.{below, ascendFrom, ascend, Opens, Sorted, rowFrom, notBelow, LineStart, Landed, Span}
-use Rattle.table.proofs.Lines.{located-cons, lines-at, ends, row-start}
+use Rattle.table.proofs.Lines.{located-cons, lines-at, row-start}
+use Rattle.byte_string.proofs.Ends.{ends}
 
 -- two numbers, compared
 pub data Cmp (x y : ℕ) : Type 0 where

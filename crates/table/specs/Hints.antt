@@ -8,7 +8,8 @@ use Prim.Native.Nat.{ℕ, suc, _+_, _-_, _*_, _%_, _≤_, _<_}
 use lib.Dec.{eqb, ltb}
 use lib.ListN.{length, take, drop, getD, set}
 use Rattle.standard.specs.Table.{Found as Located}
-use Rattle.table.specs.Lines.{endOf, starts, noRow, rowAt}
+use Rattle.byte_string.specs.Strings.{endOf}
+use Rattle.table.specs.Lines.{starts, noRow, rowAt}
 use Rattle.table.specs.Search.{Opens, Sorted}
 
 -- the slot of a key: its bytes' mix, from the front, so that a key's slot goes on from that of its beginning

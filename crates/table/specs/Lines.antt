@@ -3,18 +3,12 @@
 use mathlib.Core.Bool.{Bool, true, false, cond}
 use mathlib.Core.List.{List, [], _∷_}
 use mathlib.Core.Option.{Option, none, some}
-use Prim.Native.Nat.{ℕ, zero, suc}
+use Prim.Native.Nat.{ℕ}
 use lib.Dec.{eqb}
 use lib.ListN.{take, drop}
 use Rattle.standard.specs.Table.{Found as Located}
 use Rattle.standard.specs.Tag.{onto}
 use Rattle.table.specs.declared.Found.{Found}
-
--- the index of the first byte b of s at or after the given index, or the length
-unfoldable pub endOf : ℕ → List ℕ → ℕ → ℕ
-endOf b [] i = zero
-endOf b (x ∷ s) zero = cond (eqb x b) zero (suc (endOf b s zero))
-endOf b (x ∷ s) (suc i) = suc (endOf b s i)
 
 -- the lines of t, without their 0A. Bytes after the last 0A are a line unless there are none
 unfoldable pub lines : List ℕ → List (List ℕ)

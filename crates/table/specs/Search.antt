@@ -7,7 +7,8 @@ use Prim.Native.Nat.{ℕ, _≤_}
 use lib.Dec.{ltb}
 use lib.ListN.{length, drop, getD}
 use Rattle.standard.specs.Table.{Found as Located, located, locatedFrom}
-use Rattle.table.specs.Lines.{endOf, lines}
+use Rattle.byte_string.specs.Strings.{endOf}
+use Rattle.table.specs.Lines.{lines}
 
 -- a comes before b, by unsigned bytes from the front; a proper front comes first
 unfoldable pub below : List ℕ → List ℕ → Bool

@@ -1,7 +1,7 @@
 // Hints beside a table, made once where many keys are looked up: a no mostly takes one read, and a yes one comparison.
 // A hint that leads nowhere costs time only: the search by halves decides then.
 use crate::Found;
-use crate::end_of;
+use byte_string::end_of;
 use crate::find_sorted;
 use crate::starts_row;
 ghost use mathlib.Core.Path.{_≡_};

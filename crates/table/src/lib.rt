@@ -5,39 +5,11 @@ ghost use mathlib.Core.List.{[], _∷_, _++_};
 ghost use Prim.Native.Nat.{_+_, _≤_};
 ghost use lib.ListN.{length};
 ghost use Rattle.standard.specs.Table.{located};
-ghost use Rattle.table.specs.Lines.{endOf, starts, foundIs, valueOf};
+ghost use Rattle.table.specs.Lines.{starts, foundIs, valueOf};
 ghost use Rattle.table.specs.Search.{below, Sorted, LineStart, Landed};
+use byte_string::end_of;
 
 pub mod hints;
-
-// The index of the first byte b at or after `from`, or the length.
-pub fn end_of(s: &[u8], b: u8, from: usize) -> usize
-    ensures { λ r. ⌜ r ≡ endOf b (now (s .entry)) from ⌝ }
-{
-    let n = s.len();
-    if n <= from {
-        return n;
-    }
-    let last = n - 1;
-    let mut i = from;
-    // two bytes a round: half as many ends of rounds to test
-    while i < last {
-        if s[i] == b {
-            return i;
-        }
-        let next = i + 1;
-        if s[next] == b {
-            return next;
-        }
-        i = next + 1;
-    }
-    if i < n {
-        if s[i] == b {
-            return i;
-        }
-    }
-    n
-}
 
 // Does the line begin with the key and a tab?
 pub fn starts_row(line: &[u8], key: &[u8]) -> bool

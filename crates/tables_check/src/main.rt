@@ -1,9 +1,9 @@
 // Checks aliases.tsv, likely.tsv and parents.tsv in the current folder, and prints one line: `table`, number, table and
 // place, parted by tabs; all 0 where they pass. A file that can't be opened counts as zero bytes.
-use opener::buffer;
-use opener::load;
-use opener::print_table;
-use verdict::Verdict;
+use program_io::buffer;
+use program_io::load;
+use program_io::print_table;
+use table_check::Verdict;
 
 fn main() {
     let mut a = buffer();
@@ -12,7 +12,7 @@ fn main() {
     let a_len = load(b"aliases.tsv", &mut a);
     let l_len = load(b"likely.tsv", &mut l);
     let p_len = load(b"parents.tsv", &mut p);
-    let v = verdict::check(&a[..a_len], &l[..l_len], &p[..p_len]);
+    let v = table_check::check(&a[..a_len], &l[..l_len], &p[..p_len]);
     match v {
         Verdict::Good => {
             print_table(0, 0, 0);

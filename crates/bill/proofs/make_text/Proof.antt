@@ -3,7 +3,7 @@ use mathlib.Core.Path.{_≡_}
 use Prim.Native.Nat.{_≤_}
 use native.Mathlib.Omega.{arith}
 use lib.ListN.{length}
-use Rattle.month.proofs.Bills.{text-made}
+use Rattle.bill_lines.proofs.Bills.{text-made}
 use borrow.Author.Needs.{needs}
 use Rattle.bill.proofs.make_text.Statement.{statement}
 use Rattle.bill.proofs.make_text.Tie as tie

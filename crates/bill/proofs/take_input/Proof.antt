@@ -4,7 +4,7 @@ use mathlib.Core.List.{[], _++_}
 use lib.ListN.{length}
 use lib.Seq.{length-take-le}
 use Rattle.standard.specs.Delivery.{Bytes}
-use Rattle.month.specs.Fed.{Fed}
+use Rattle.bill_lines.specs.Fed.{Fed}
 use borrow.Author.Needs.{needs}
 use Rattle.bill.proofs.take_input.Statement.{statement}
 use Rattle.bill.proofs.take_input.Tie as tie

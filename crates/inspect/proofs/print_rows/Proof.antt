@@ -6,7 +6,7 @@ use lib.ListN.{length}
 use lib.Seq.{length-take-le, length-sets}
 use borrow.Author.Needs.{needs}
 use Rattle.lines.proofs.Pieces as pieces
-use Rattle.inspection.specs.Rows.{rowOf}
+use Rattle.inspect_rows.specs.Rows.{rowOf}
 use Rattle.inspect.proofs.print_rows.Statement.{statement}
 use Rattle.inspect.proofs.print_rows.Tie as tie
 

@@ -3,9 +3,9 @@ use native.Mathlib.Omega.{arith}
 use mathlib.Core.Path.{refl}
 use mathlib.Core.List.{_++_}
 use lib.ListN.{take}
-use Rattle.subtag.proofs.Stores.{wrote-two}
-use Rattle.fields.specs.Fields.{decimal, field, askedOf}
-use Rattle.fields.proofs.Laws.{field-length}
+use Rattle.byte_string.proofs.Stores.{wrote-two}
+use Rattle.tsv.specs.Fields.{decimal, field, askedOf}
+use Rattle.tsv.proofs.Laws.{field-length}
 use Rattle.key_rows.specs.Keys.{answerText, keptText}
 use borrow.Author.Needs.{needs}
 use Rattle.key_rows.proofs.put_answer.Statement.{statement}

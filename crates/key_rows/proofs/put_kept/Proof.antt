@@ -5,7 +5,7 @@ use mathlib.Core.Path.{sym}
 use mathlib.Core.List.{[], _∷_}
 use lib.ListN.{take}
 use lib.Seq.{length-take-le}
-use Rattle.fields.proofs.Laws.{field-length}
+use Rattle.tsv.proofs.Laws.{field-length}
 use borrow.Author.Needs.{needs}
 use Rattle.key_rows.proofs.put_kept.Statement.{statement}
 use Rattle.key_rows.proofs.put_kept.Tie as tie

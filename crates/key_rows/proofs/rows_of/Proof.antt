@@ -1,7 +1,7 @@
 -- `key_rows::rows_of` meets its contract. Assumes nothing.
 use native.Mathlib.Omega.{arith}
-use Rattle.canonical.proofs.Delivers.{table-good}
-use Rattle.likely.proofs.Checked.{tested-both}
+use Rattle.operations.proofs.Delivers.{table-good}
+use Rattle.operations.proofs.CompleteChecked.{tested-both}
 use Rattle.key_rows.proofs.Laws as laws
 use borrow.Author.Needs.{needs}
 use Rattle.key_rows.proofs.rows_of.Statement.{statement}

@@ -3,7 +3,7 @@ use mathlib.Core.Path.{_≡_, sym}
 use Prim.Native.Nat.{_+_, _≤_}
 use lib.ListN.{length}
 use lib.Seq.{length-take-le}
-use Rattle.opener.specs.Handed.{Handed}
+use Rattle.program_io.specs.Handed.{Handed}
 use borrow.Author.Needs.{needs}
 use Rattle.keys.proofs.answer_input.Statement.{statement}
 use Rattle.keys.proofs.answer_input.Tie as tie

@@ -1,7 +1,6 @@
 -- `subtag::is_separator` meets its contract. Assumes nothing.
-use mathlib.Core.Path.{_∙_}
+use mathlib.Core.Path.{_∙_, refl}
 use Rattle.subtag.proofs.Bytes.{separator-as}
-use mathlib.Core.Path.{refl}
 use borrow.Author.Needs.{needs}
 use Rattle.subtag.proofs.is_separator.Statement.{statement}
 use Rattle.subtag.proofs.is_separator.Tie as tie

@@ -7,7 +7,7 @@ use mathlib.Core.List.{map}
 use lib.ListN.{length, take, length-set}
 use lib.Seq.{sets}
 use Rattle.subtag.specs.Bytes.{tidyByte}
-use Rattle.subtag.proofs.Stores as stores
+use Rattle.byte_string.proofs.Stores as stores
 use Rattle.subtag.proofs.put_tidy.Statement.{statement}
 use Rattle.subtag.proofs.put_tidy.Tie as tie
 

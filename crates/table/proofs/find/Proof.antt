@@ -6,7 +6,8 @@ use Prim.Native.Nat.{_+_, _-_, _≤_}
 use lib.ListN.{length}
 use Rattle.standard.specs.Table.{located}
 use Rattle.table.specs.Search.{rowFrom}
-use Rattle.table.proofs.Lines.{Ends, ends, row-start, row-past, row-miss, row-hit, row-room}
+use Rattle.byte_string.proofs.Ends.{Ends, ends}
+use Rattle.table.proofs.Lines.{row-start, row-past, row-miss, row-hit, row-room}
 use Rattle.table.proofs.find.Statement.{statement}
 use Rattle.table.proofs.find.Tie as tie
 

@@ -4,9 +4,9 @@ use native.Mathlib.Omega.{arith}
 use mathlib.Core.Path.{sym, _∙_}
 use Prim.Native.Nat.{_+_, _-_, _≤_}
 use lib.ListN.{length}
-use Rattle.table.proofs.Lines.{Ends, ends, row-past, row-hit, row-room}
+use Rattle.byte_string.proofs.Ends.{Ends, ends}
+use Rattle.table.proofs.Lines.{row-past, row-hit, row-room}
 use Rattle.table.proofs.Searches.{landed-miss}
-use borrow.Author.Needs.{needs}
 use Rattle.table.proofs.find_sorted.Statement.{statement}
 use Rattle.table.proofs.find_sorted.Tie as tie
 

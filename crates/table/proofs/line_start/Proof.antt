@@ -3,8 +3,8 @@ use mathlib.Core.Path.{_≡_, refl, ap, _∙_}
 use Prim.Native.Nat.{_+_, _-_, _≤_}
 use native.Mathlib.Omega.{arith}
 use borrow.Author.Needs.{needs}
-use Rattle.table.specs.Lines.{endOf}
-use Rattle.table.proofs.Lines.{end-miss}
+use Rattle.byte_string.specs.Strings.{endOf}
+use Rattle.byte_string.proofs.Ends.{end-miss}
 use Rattle.table.proofs.Searches.{opens-after}
 use Rattle.table.proofs.line_start.Statement.{statement}
 use Rattle.table.proofs.line_start.Tie as tie

@@ -5,7 +5,7 @@ use native.Mathlib.Omega.{arith}
 use lib.ListN.{length}
 use borrow.Author.Needs.{needs}
 use Rattle.table.specs.Search.{Sorted, Span}
-use Rattle.table.proofs.Lines.{end-le, end-ge}
+use Rattle.byte_string.proofs.Ends.{end-le, end-ge}
 use Rattle.table.proofs.Searches.{span-all, probe-below, probe-above, landed}
 use Rattle.table.proofs.locate.Statement.{statement}
 use Rattle.table.proofs.locate.Tie as tie

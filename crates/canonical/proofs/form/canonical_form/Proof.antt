@@ -1,10 +1,10 @@
 -- `canonical::form::canonical_form` meets its contract. Assumes nothing.
 use native.Mathlib.Omega.{arith}
-use Rattle.canonical.proofs.Delivers as delivers
 use Rattle.canonical.proofs.Outcomes as outcomes
 use borrow.Author.Needs.{needs}
 use Rattle.canonical.proofs.form.canonical_form.Statement.{statement}
 use Rattle.canonical.proofs.form.canonical_form.Tie as tie
+use Rattle.canonical.proofs.TestedAliases.{tested-with}
 
 read-parts-requires : tie.Need-read-parts-requires
 read-parts-requires c κs = search needs
@@ -27,7 +27,7 @@ write-form-requires c κs =
     let r = m .before in
     let b = r .before .before .before .before .before in
     let w = outcomes.was-read (b .args .aliases .now) (b .args .id .now) (b .args .out .now) (r .read-parts .result) _ (r .read-parts .ensures) (c .before .before .reading .given .1) in
-    (w .0, w .1, delivers.tested-with (b .args .aliases .now) (b .args .hints .now) (b .pre .0) (b .pre .2), b .pre .1)
+    (w .0, w .1, tested-with (b .args .aliases .now) (b .args .hints .now) (b .pre .0) (b .pre .2), b .pre .1)
 
 same-length : tie.Need-same-length
 same-length c = search needs

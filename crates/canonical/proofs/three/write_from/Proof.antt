@@ -8,11 +8,11 @@ use lib.Seq.{length-take-le}
 use Rattle.canonical.proofs.Cores as cores
 use Rattle.standard.specs.Table.{scriptKey, regionKey}
 use Rattle.canonical.specs.Three.{partBytes}
-use Rattle.subtag.proofs.Stores as stores
-use Rattle.table.proofs.Lines as lines
+use Rattle.byte_string.proofs.Stores as stores
 use borrow.Author.Needs.{needs}
 use Rattle.canonical.proofs.three.write_from.Statement.{statement}
 use Rattle.canonical.proofs.three.write_from.Tie as tie
+use Rattle.byte_string.proofs.Ends.{end-le}
 
 end-of-requires : tie.Need-end-of-requires
 end-of-requires c κs = search needs
@@ -22,7 +22,7 @@ short : (c : tie.After-end-of) → (c .end-of .result ≤ 17) × (c .end-of .res
 short c =
     let b = c .before .before .before .before .before .before in
     let n = cores.word-small (b .args .aliases .now) (b .args .id .now) (b .pre .2 .passes) (b .pre .0) in
-    let h = lines.end-le 45 (b .args .w .now) 0 in
+    let h = end-le 45 (b .args .w .now) 0 in
     (omega (arith, c .end-of .ensures, ap length (b .pre .3)), omega (arith, c .end-of .ensures))
 
 script-end-requires : tie.Need-script-end-requires

@@ -4,7 +4,7 @@ use mathlib.Core.Path.{sym}
 use Prim.Native.Nat.{_≤_}
 use lib.ListN.{length}
 use lib.Seq.{length-take-le}
-use Rattle.canonical.proofs.Keyed as keys
+use Rattle.aliases.proofs.Keyed as keys
 use borrow.Author.Needs.{needs}
 use Rattle.canonical.proofs.three.write_three.Statement.{statement}
 use Rattle.canonical.proofs.three.write_three.Tie as tie

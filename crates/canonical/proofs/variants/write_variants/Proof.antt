@@ -5,7 +5,7 @@ use mathlib.Core.List.{List}
 use Prim.Native.Nat.{ℕ, _+_, _≤_}
 use lib.ListN.{length, take}
 use lib.Seq.{sets, length-take-le}
-use Rattle.arranging.specs.Section.{tagsOf}
+use Rattle.subtag.specs.Sections.{tagsOf}
 use Rattle.canonical.proofs.Merged as merged
 use borrow.Author.Needs.{needs}
 use Rattle.canonical.proofs.variants.write_variants.Statement.{statement}

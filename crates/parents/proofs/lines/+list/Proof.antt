@@ -8,7 +8,7 @@ use borrow.Fn.PlainCycle.{Measures, is, falls, and}
 use Rattle.parents.proofs.lines.list.Reads as list
 use Rattle.parents.proofs.lines.list.Kinds as list-kinds
 use Rattle.parents.proofs.lines.+list.Lts-list as list-lts
-use Rattle.subtag.proofs.same.Reads as same-reads
+use Rattle.byte_string.proofs.same.Reads as same-reads
 use Rattle.parents.proofs.lines.add_line.Reads as add-line-reads
 use Rattle.parents.proofs.lines.fewer.Reads as fewer-reads
 use Rattle.parents.proofs.lines.last_line.Reads as last-line-reads

@@ -6,7 +6,8 @@ use Prim.Native.Nat.{_+_, _≤_}
 use lib.ListN.{length}
 use borrow.Author.Tests.{not-true, not-false}
 use Rattle.table.specs.Hints.{OpensIs}
-use Rattle.table.proofs.Lines.{Ends, ends, row-room}
+use Rattle.byte_string.proofs.Ends.{Ends, ends}
+use Rattle.table.proofs.Lines.{row-room}
 use Rattle.table.proofs.Hinting.{seen-none, seen-miss, seen-hit}
 use borrow.Author.Needs.{needs}
 use Rattle.table.proofs.hints.row_at.Statement.{statement}

@@ -1,0 +1,135 @@
+// A month's usage lines, taken into a bill a piece at a time.
+pub mod input;
+mod key;
+mod line;
+mod piece;
+mod shape;
+pub mod text;
+
+use canonical::buffer::buffer;
+use table::hints::fill_hints;
+use table::hints::many;
+use table_check::Verdict;
+use table_check::check_likely;
+ghost use mathlib.Core.Path.{_≡_};
+ghost use mathlib.Core.Bool.{true};
+ghost use mathlib.Core.List.{List, [], _++_};
+ghost use Prim.Native.Nat.{ℕ};
+ghost use Rattle.standard.specs.Delivery.{Bytes};
+ghost use Rattle.standard.specs.Table.{tablesOf};
+ghost use Rattle.table.specs.Lines.{lines};
+ghost use Rattle.operations.specs.Both.{TestedBoth};
+ghost use Rattle.bill_ledger.specs.Up.{Sized};
+ghost use Rattle.bill_lines.specs.State.{Bounded, only as onlyOf, Going, Good};
+ghost use Rattle.bill_lines.specs.Held.{Held, Usable, Stays, judgedBy};
+
+// A bill's refusal (11 to 14 for the tables, 17 or 18), with the table and the place of a table's; the number of its keys,
+// of the lines read and of those refused.
+pub struct Counts {
+    pub number: u8,
+    pub table: u8,
+    pub place: usize,
+    pub keys: usize,
+    pub lines: usize,
+    pub refused: usize,
+}
+
+// The counts of a refusal, or with number 0 of no lines.
+fn only(number: u8, table: u8, place: usize) -> Counts
+    ensures { λ r. ⌜ r ≡ onlyOf number table place ⌝ }
+{
+    Counts {
+        number,
+        table,
+        place,
+        keys: 0,
+        lines: 0,
+        refused: 0,
+    }
+}
+
+// The counts after the check of the tables: a bad one's number, table and place.
+fn judged(v: Verdict) -> Counts
+    ensures { λ r. ⌜ r ≡ judgedBy v ⌝ }
+{
+    match v {
+        Verdict::Good => only(0, 0, 0),
+        Verdict::Bad(number, table, place) => only(number, table, place),
+    }
+}
+
+// The counts of a bill over no lines, or of one with bad tables. Its arrays are 16,384 bytes for the keys and 1,024
+// numbers, whatever stands in them.
+pub fn start(aliases: &[u8], likely: &[u8]) -> Counts
+    ensures { λ r. ⌜ ((ks : Bytes) → (cs : List ℕ) → Sized ks cs → Held (now (aliases .entry)) (now (likely .entry)) [] r ks cs) ⌝ }
+{
+    judged(check_likely(aliases, likely))
+}
+
+// Takes the lines of a piece into a bill that is not refused, over tables that passed their check. Their hints are made
+// once for the piece.
+fn add_tested(
+    c: Counts,
+    piece: &[u8],
+    aliases: &[u8],
+    likely: &[u8],
+    keys: &mut [u8],
+    counts: &mut [u64],
+) -> Counts
+    requires { ⌜ TestedBoth (now aliases) (now likely) × Bounded c × Sized (now keys) (now counts) ⌝ }
+    ensures { λ r. ⌜ Bounded r × Sized (now (keys .exit)) (now (counts .exit))
+        × ((ls : List Bytes) → Going (tablesOf (now (aliases .entry)) (now (likely .entry)) []) ls c (now (keys .entry)) (now (counts .entry))
+        → Good (tablesOf (now (aliases .entry)) (now (likely .entry)) []) (ls ++ lines (now (piece .entry))) r (now (keys .exit)) (now (counts .exit))) ⌝ }
+{
+    let mut a = many();
+    fill_hints(aliases, &mut a);
+    let mut l = many();
+    fill_hints(likely, &mut l);
+    let mut out = buffer();
+    piece::take_lines(c, piece, aliases, &a, likely, &l, keys, counts, &mut out)
+}
+
+// Can a bill with these counts and arrays go on?
+fn is_usable(c: Counts, keys: &[u8], counts: &[u64]) -> bool
+    ensures { λ r. ⌜ (r ≡ true → Usable c (now (keys .entry)) (now (counts .entry))) × (Usable c (now (keys .entry)) (now (counts .entry)) → r ≡ true) ⌝ }
+{
+    if c.number != 0 {
+        return false;
+    }
+    if keys.len() != 16384 {
+        return false;
+    }
+    if counts.len() != 1024 {
+        return false;
+    }
+    if 512 < c.keys {
+        return false;
+    }
+    if 1000000 < c.lines {
+        return false;
+    }
+    c.refused <= c.lines
+}
+
+// Takes the lines of a piece into a bill. A refused bill stays as it is, and so do counts and arrays that are no bill's.
+pub fn add(
+    c: Counts,
+    piece: &[u8],
+    aliases: &[u8],
+    likely: &[u8],
+    keys: &mut [u8],
+    counts: &mut [u64],
+) -> Counts
+    ensures { λ r. ⌜ ((ls : List Bytes) → Held (now (aliases .entry)) (now (likely .entry)) ls c (now (keys .entry)) (now (counts .entry))
+        → Held (now (aliases .entry)) (now (likely .entry)) (ls ++ lines (now (piece .entry))) r (now (keys .exit)) (now (counts .exit)))
+        × ((Usable c (now (keys .entry)) (now (counts .entry)) → ⊥) → Stays c r (now (keys .entry)) (now (keys .exit)) (now (counts .entry)) (now (counts .exit))) ⌝ }
+{
+    if !is_usable(c, keys, counts) {
+        return c;
+    }
+    let v = check_likely(aliases, likely);
+    let Verdict::Good = v else {
+        return judged(v);
+    };
+    add_tested(c, piece, aliases, likely, keys, counts)
+}

@@ -1,0 +1,20 @@
+-- The order of byte strings as the code answers it, and the first place of a byte.
+-- Assumes nothing.
+use mathlib.Core.Bool.{cond}
+use mathlib.Core.List.{[], _∷_, List}
+use Prim.Native.Nat.{ℕ, zero, suc, Ordering, Ordering·lt, Ordering·eq, Ordering·gt}
+use Rattle.byte_string.specs.declared.Order.{Order}
+use Rattle.byte_string.specs.declared.Order.the-variants.{Less, Equal, Greater}
+use lib.Dec.{eqb}
+
+-- the standard's order that an answer stands for
+abbrev pub orderOf : Order → Ordering
+orderOf Less = Ordering·lt
+orderOf Equal = Ordering·eq
+orderOf Greater = Ordering·gt
+
+-- the index of the first byte b of s at or after the given index, or the length
+unfoldable pub endOf : ℕ → List ℕ → ℕ → ℕ
+endOf b [] i = zero
+endOf b (x ∷ s) zero = cond (eqb x b) zero (suc (endOf b s zero))
+endOf b (x ∷ s) (suc i) = suc (endOf b s i)

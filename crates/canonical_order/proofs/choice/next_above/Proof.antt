@@ -1,0 +1,78 @@
+-- `canonical::sorted::next_above` meets its contract. Assumes nothing.
+use borrow.Author.Needs.{needs}
+use native.Mathlib.Omega.{arith}
+use mathlib.Core.Path.{_≡_, refl, sym, _∙_}
+use Prim.Native.Nat.{_-_, _≤_}
+use lib.ListN.{length, drop}
+use Rattle.subtag.specs.Sections.{tagsOf, Led}
+use Rattle.canonical_order.specs.Section.{pickFrom, noHead}
+use Rattle.canonical_order.proofs.Picks as picks
+use Rattle.canonical_order.proofs.choice.next_above.Statement.{statement}
+use Rattle.canonical_order.proofs.choice.next_above.Tie as tie
+
+abbrev Inv-loop : tie.InvT-loop
+Inv-loop s width last n best₀ at₀ best at =
+    (at ≤ length s) × Led (drop at s)
+    × (pickFrom width last 0 (noHead (length s)) (tagsOf s) ≡ pickFrom width last at best (tagsOf (drop at s)))
+
+abbrev μ-loop : tie.MeasureT-loop
+μ-loop s width last n best₀ at₀ best at = length s - at
+
+loop-holds : tie.Need-loop-holds Inv-loop μ-loop
+unfolding noHead
+loop-holds c = (omega arith, c .before .pre .0, refl)
+
+add-start : tie.Need-add-start Inv-loop μ-loop
+add-start c = omega arith
+
+sub-judge : tie.Need-sub-judge Inv-loop μ-loop
+sub-judge c = omega arith
+
+part-judge-start : tie.Need-part-judge-start Inv-loop μ-loop
+part-judge-start c = omega arith
+
+part-judge-end : tie.Need-part-judge-end Inv-loop μ-loop
+part-judge-end c = omega arith
+
+judge-requires : tie.Need-judge-requires Inv-loop μ-loop
+judge-requires c κs = search needs
+
+stepped : (c : tie.After-judge Inv-loop μ-loop)
+    → picks.Stepped (c .before .before .before .before .before .args .s .now) (c .before .before .before .loop .at) (c .judge .result)
+stepped c =
+    picks.stepped _ _ _ (c .before .before .loop-test .taken) (c .before .before .before .loop .inv .1) (c .judge .ensures)
+
+better-requires : tie.Need-better-requires Inv-loop μ-loop
+better-requires c κs = omega (arith, (stepped c) .on .fits)
+
+add-at : tie.Need-add-at Inv-loop μ-loop
+add-at c = omega (arith, (stepped (c .before)) .on .fits)
+
+loop-less : tie.Need-loop-less Inv-loop μ-loop
+loop-less c = omega (arith, (stepped (c .before)) .on .fits)
+
+loop-again : tie.Need-loop-again Inv-loop μ-loop
+loop-again c =
+    let w = stepped (c .before) in
+    (w .on .fits, w .on .begins, c .before .before .before .before .loop .inv .2 ∙ picks.pick-next _ _ _ w _ _ _ _ (c .better .ensures))
+
+returns : tie.Need-returns Inv-loop μ-loop
+returns c = sym (c .before .loop .inv .2 ∙ picks.pick-done _ _ _ _ _ (c .loop-test .left))
+
+pub next-above-spec : {M : Type 1} → statement M
+next-above-spec =
+    tie.close
+    (tie.spec
+    Inv-loop
+    μ-loop
+    loop-holds
+    add-start
+    sub-judge
+    part-judge-start
+    part-judge-end
+    judge-requires
+    better-requires
+    add-at
+    loop-less
+    loop-again
+    returns)

@@ -1,0 +1,82 @@
+-- `canonical::section::first_of` meets its contract. Assumes nothing.
+use borrow.Author.Needs.{needs}
+use native.Mathlib.Omega.{arith}
+use mathlib.Core.Path.{_≡_, refl, sym, _∙_}
+use Prim.Native.Nat.{_-_, _≤_}
+use lib.ListN.{length, drop}
+use Rattle.subtag.specs.Sections.{tagsOf, Led}
+use Rattle.canonical_order.specs.Section.{placeOf}
+use Rattle.canonical_order.proofs.Picks as picks
+use Rattle.canonical_order.proofs.Tests as tests
+use Rattle.canonical_order.proofs.section.first_of.Statement.{statement}
+use Rattle.canonical_order.proofs.section.first_of.Tie as tie
+
+abbrev Inv-loop : tie.InvT-loop
+Inv-loop s what from n at₀ at =
+    (at ≤ length s) × Led (drop at s) × (placeOf what from (tagsOf (drop from s)) ≡ placeOf what at (tagsOf (drop at s)))
+
+abbrev μ-loop : tie.MeasureT-loop
+μ-loop s what from n at₀ at = length s - at
+
+loop-holds : tie.Need-loop-holds Inv-loop μ-loop
+loop-holds c = (c .before .pre .0, c .before .pre .1, refl)
+
+add-start : tie.Need-add-start Inv-loop μ-loop
+add-start c = omega arith
+
+sub-judge : tie.Need-sub-judge Inv-loop μ-loop
+sub-judge c = omega arith
+
+part-judge-start : tie.Need-part-judge-start Inv-loop μ-loop
+part-judge-start c = omega arith
+
+part-judge-end : tie.Need-part-judge-end Inv-loop μ-loop
+part-judge-end c = omega arith
+
+judge-requires : tie.Need-judge-requires Inv-loop μ-loop
+judge-requires c κs = search needs
+
+stepped : (c : tie.After-judge Inv-loop μ-loop)
+    → picks.Stepped (c .before .before .before .before .before .args .s .now) (c .before .before .before .loop .at) (c .judge .result)
+stepped c =
+    picks.stepped _ _ _ (c .before .before .loop-test .taken) (c .before .before .before .loop .inv .1) (c .judge .ensures)
+
+is-what-requires : tie.Need-is-what-requires Inv-loop μ-loop
+is-what-requires c κs = search needs
+
+returns : tie.Need-returns Inv-loop μ-loop
+returns c =
+    sym (c .before .before .before .before .before .loop .inv .2 ∙ tests.place-here _ _ _ (stepped (c .before .before)) _ (sym (c .before .is-what .ensures) ∙ c .if1 .taken))
+
+add-at : tie.Need-add-at Inv-loop μ-loop
+add-at c = omega (arith, (stepped (c .before .before)) .on .fits)
+
+loop-less : tie.Need-loop-less Inv-loop μ-loop
+loop-less c = omega (arith, (stepped (c .before .before)) .on .fits)
+
+loop-again : tie.Need-loop-again Inv-loop μ-loop
+loop-again c =
+    let w = stepped (c .before .before) in
+    (w .on .fits, w .on .begins, c .before .before .before .before .before .loop .inv .2 ∙ tests.place-next _ _ _ w _ (sym (c .before .is-what .ensures) ∙ c .if1 .left))
+
+returns-2 : tie.Need-returns-2 Inv-loop μ-loop
+returns-2 c = sym (c .before .loop .inv .2 ∙ tests.place-done _ _ _ (c .loop-test .left))
+
+pub first-of-spec : {M : Type 1} → statement M
+first-of-spec =
+    tie.close
+    (tie.spec
+    Inv-loop
+    μ-loop
+    loop-holds
+    add-start
+    sub-judge
+    part-judge-start
+    part-judge-end
+    judge-requires
+    is-what-requires
+    returns
+    add-at
+    loop-less
+    loop-again
+    returns-2)

@@ -1,0 +1,57 @@
+-- `canonical::sorted::trimmed_end` meets its contract. Assumes nothing.
+use borrow.Author.Needs.{needs}
+use native.Mathlib.Omega.{arith}
+use mathlib.Core.Path.{_∙_}
+use borrow.Author.Tests.{not-true, not-false}
+use Rattle.subtag.proofs.Walk as walk
+use Rattle.canonical_order.proofs.Trim as trim
+use Rattle.canonical_order.proofs.sorted.trimmed_end.Statement.{statement}
+use Rattle.canonical_order.proofs.sorted.trimmed_end.Tie as tie
+
+returns : tie.Need-returns
+returns c = trim.trim-off _ _ _ _ (not-true _ (c .if1 .taken))
+
+returns-2 : tie.Need-returns-2
+returns-2 c = trim.trim-none _ _ _ _ (not-false _ (c .before .if1 .left)) (c .if2 .taken)
+
+add-start : tie.Need-add-start
+add-start c = search needs
+
+sub-judge : tie.Need-sub-judge
+sub-judge c = search needs
+
+part-judge-start : tie.Need-part-judge-start
+part-judge-start c = search needs
+
+part-judge-end : tie.Need-part-judge-end
+part-judge-end c = search needs
+
+judge-requires : tie.Need-judge-requires
+judge-requires c κs = search needs
+
+without-requires : tie.Need-without-requires
+without-requires c κs =
+    let a = c .before .before .before .before .before .args in
+    let z = walk.judged-fits (a .s .now) _ _ (c .judge .ensures) in
+    omega arith
+
+returns-3 : tie.Need-returns-3
+returns-3 c =
+    let a = c .before .before .before .before .before .before .args in
+    c .without .ensures
+    ∙ trim.trim-on (a .trim) (a .s .now) (a .next) (a .end) (c .before .judge .result) (not-false _ (c .before .before .before .before .if1 .left)) (c .before .before .before .if2 .left)
+    (c .before .judge .ensures)
+
+pub trimmed-end-spec : {M : Type 1} → statement M
+trimmed-end-spec =
+    tie.close
+    (tie.spec
+    returns
+    returns-2
+    add-start
+    sub-judge
+    part-judge-start
+    part-judge-end
+    judge-requires
+    without-requires
+    returns-3)

@@ -1,0 +1,47 @@
+-- What is printed as asked has at most 255 bytes, and so a row has room; of a line only the first 260 bytes matter.
+-- Assumes nothing.
+use mathlib.Core.Path.{_≡_, refl, sym, ap}
+use mathlib.Core.List.{List, [], _++_}
+use Prim.Native.Nat.{ℕ, _+_, _≤_, _<_}
+use native.Mathlib.Omega.{arith}
+use lib.ListN.{length, take}
+use Rattle.standard.specs.Reading.{bad}
+use Rattle.standard.specs.Report.{Report, reportOf, report}
+use Rattle.reader.specs.Words.{reportIs, refusedReport}
+use Rattle.reader.proofs.Outcomes.{outcome-long}
+use Rattle.reader.proofs.Reports.{report-bad}
+use Rattle.table.specs.Lines.{lines}
+use Rattle.lines.specs.Squeeze.{handed, allLines, together}
+use Rattle.lines.specs.Pieces.{rowsText}
+use Rattle.lines.proofs.Pieces.{first-enough, rows-handed}
+use Rattle.tsv.specs.Fields.{field, askedOf}
+use Rattle.inspect_rows.specs.Rows.{fieldsText, reportText, rowOf}
+use Rattle.tsv.proofs.Laws.{asked-two, asked-fits, field-length}
+use Rattle.reader.specs.declared.report.Report.{Report as Read·Report}
+
+-- what is printed as asked has at most 255 bytes
+asked-small : (x : List ℕ) → length (askedOf ((report x) .number) x) ≤ 255
+unfolding refusedReport reportOf
+asked-small x = asked-fits ((report x) .number) x (λ h. rw (← (report-bad x 2 0 (outcome-long x h))))
+
+pub asked-length : (r : Read·Report) (x : List ℕ) → reportIs r ≡ report x → length (field (askedOf (r .number) x) 9) ≤ 256
+unfolding reportIs
+asked-length r x e = let s = rw (← e) at (asked-small x) in let f = field-length (askedOf (r .number) x) 9 in omega arith
+
+-- the text of a row, once its parts are written
+pub row-text : (r : Read·Report) (x : List ℕ) → reportIs r ≡ report x → rowOf x ≡ field (askedOf (r .number) x) 9 ++ fieldsText (reportIs r)
+unfolding rowOf reportText reportIs
+row-text r x e = sym (ap (λ (q : Report). reportText q x) e)
+
+-- Of a line only the first 260 bytes matter: with more than 255 it is refused with 2.
+row-long : (x : List ℕ) → 255 < length x → rowOf x ≡ reportText (reportOf (bad 2 0)) []
+unfolding rowOf reportText refusedReport reportOf
+row-long x h = rw (← (report-bad x 2 0 (outcome-long x h)), asked-two 2 x refl, asked-two 2 [] refl)
+
+pub row-first : (x : List ℕ) → rowOf (take 260 x) ≡ rowOf x
+row-first x = first-enough rowOf (reportText (reportOf (bad 2 0)) []) (λ y h. row-long y (omega arith)) x
+
+-- THE PROGRAM: of blocks of input, wherever they end, the rows of the lines that the line reader hands over are the rows
+-- of the lines of the input.
+pub all-rows : (bs : List (List ℕ)) → rowsText rowOf (allLines (handed [] bs)) ≡ rowsText rowOf (lines (together bs))
+all-rows bs = rows-handed rowOf row-first bs

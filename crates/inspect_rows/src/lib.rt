@@ -1,0 +1,113 @@
+// The rows that the program `inspect` prints: an identifier as asked, and what reading reports of it.
+use tsv::put;
+use tsv::put_asked;
+use tsv::put_number;
+use lines::next_line;
+use reader::report::Report;
+use reader::report::Word;
+use byte_string::end_of;
+ghost use mathlib.Core.Path.{_≡_};
+ghost use mathlib.Core.List.{_++_};
+ghost use Prim.Native.Nat.{_+_, _≤_};
+ghost use lib.ListN.{length};
+ghost use lib.Seq.{sets};
+ghost use Rattle.reader.specs.Words.{wordIs, reportIs, Within};
+ghost use Rattle.tsv.specs.Fields.{decimal, field};
+ghost use Rattle.lines.specs.Pieces.{pieceText, pieceUsed};
+ghost use Rattle.inspect_rows.specs.Rows.{dashed, threeText, fieldsText, rowOf};
+
+// `-` for an absent subtag.
+fn dashed_word(w: Word) -> Word
+    requires { ⌜ w .len ≤ 8 ⌝ }
+    ensures { λ r. ⌜ (wordIs r ≡ dashed (wordIs w)) × (r .len ≤ 8) ⌝ }
+{
+    if w.len == 0 {
+        return Word {
+            bytes: [45, 0, 0, 0, 0, 0, 0, 0],
+            len: 1,
+        };
+    }
+    w
+}
+
+// Writes a word and the mark that ends it at the place at, and gives the next place.
+fn put_word(w: Word, mark: u8, out: &mut [u8], at: usize) -> usize
+    requires { ⌜ (w .len ≤ 8) × (at + 9 ≤ length (now out)) ⌝ }
+    ensures { λ r. ⌜ (r ≡ at + length (field (wordIs w) mark)) × (now (out .exit) ≡ sets (now (out .entry)) at (field (wordIs w) mark)) × (r ≤ at + 9) ⌝ }
+{
+    let n = w.len;
+    let bytes = w.bytes;
+    put(&bytes[..n], mark, out, at)
+}
+
+fn put_subtag(w: Word, mark: u8, out: &mut [u8], at: usize) -> usize
+    requires { ⌜ (w .len ≤ 8) × (at + 9 ≤ length (now out)) ⌝ }
+    ensures { λ r. ⌜ (r ≡ at + length (field (dashed (wordIs w)) mark)) × (now (out .exit) ≡ sets (now (out .entry)) at (field (dashed (wordIs w)) mark)) × (r ≤ at + 9) ⌝ }
+{
+    put_word(dashed_word(w), mark, out, at)
+}
+
+// Writes two numbers, the second with the given mark, at the place at, and gives the next place.
+fn put_two(first: usize, second: usize, mark: u8, out: &mut [u8], at: usize) -> usize
+    requires { ⌜ at + 42 ≤ length (now out) ⌝ }
+    ensures { λ r. ⌜ (r ≡ at + length (field (decimal first) 9 ++ field (decimal second) mark)) × (now (out .exit) ≡ sets (now (out .entry)) at (field (decimal first) 9 ++ field (decimal second) mark)) × (r ≤ at + 42) ⌝ }
+{
+    let p = put_number(first, 9, out, at);
+    put_number(second, mark, out, p)
+}
+
+fn put_three(language: Word, script: Word, region: Word, out: &mut [u8], at: usize) -> usize
+    requires { ⌜ (language .len ≤ 8) × (script .len ≤ 8) × (region .len ≤ 8) × (at + 27 ≤ length (now out)) ⌝ }
+    ensures { λ r. ⌜ (r ≡ at + length (threeText (wordIs language) (wordIs script) (wordIs region))) × (now (out .exit) ≡ sets (now (out .entry)) at (threeText (wordIs language) (wordIs script) (wordIs region))) × (r ≤ at + 27) ⌝ }
+{
+    let p = put_subtag(language, 9, out, at);
+    let q = put_subtag(script, 9, out, p);
+    put_subtag(region, 9, out, q)
+}
+
+// All fields of a report.
+fn put_report(r: Report, out: &mut [u8], at: usize) -> usize
+    requires { ⌜ Within r × (at + 111 ≤ length (now out)) ⌝ }
+    ensures { λ n. ⌜ (n ≡ at + length (fieldsText (reportIs r))) × (now (out .exit) ≡ sets (now (out .entry)) at (fieldsText (reportIs r))) × (n ≤ at + 111) ⌝ }
+{
+    let language = r.language;
+    let script = r.script;
+    let region = r.region;
+    let p = put_two(r.number as usize, r.place, 9, out, at);
+    let q = put_three(language, script, region, out, p);
+    put_two(r.variants, r.extensions, 10, out, q)
+}
+
+// Writes the row of a line at the place at, and gives the next place.
+fn put_row(line: &[u8], out: &mut [u8], at: usize) -> usize
+    requires { ⌜ at + 512 ≤ length (now out) ⌝ }
+    ensures { λ r. ⌜ (r ≡ at + length (rowOf (now (line .entry)))) × (now (out .exit) ≡ sets (now (out .entry)) at (rowOf (now (line .entry)))) × (r ≤ at + 512) ⌝ }
+{
+    let r = reader::report::read(line);
+    let asked = put_asked(r.number, line, out, at);
+    put_report(r, out, asked)
+}
+
+// How many bytes of a piece were answered, and the length of their rows.
+pub struct Written {
+    pub used: usize,
+    pub len: usize,
+}
+
+// Writes the rows of the lines of a piece at the front of out, as long as 512 bytes are free before each.
+pub fn rows_of(piece: &[u8], out: &mut [u8]) -> Written
+    ensures { λ r. ⌜ (r .used ≡ pieceUsed rowOf 512 (length (now (out .entry))) (now (piece .entry))) × (r .len ≡ length (pieceText rowOf 512 (length (now (out .entry))) (now (piece .entry))))
+        × (now (out .exit) ≡ sets (now (out .entry)) 0 (pieceText rowOf 512 (length (now (out .entry))) (now (piece .entry)))) × (r .used ≤ length (now (piece .entry))) × (r .len ≤ length (now (out .entry))) ⌝ }
+{
+    let mut at = 0;
+    let mut len = 0;
+    while at < piece.len() {
+        if out.len() - len < 512 {
+            return Written { used: at, len };
+        }
+        let e = end_of(piece, b'\n', at);
+        len = put_row(&piece[at..e], out, len);
+        at = next_line(piece.len(), e);
+    }
+    Written { used: at, len }
+}

@@ -1,0 +1,9 @@
+pub mod Canonicalised
+pub mod Delivers
+pub mod Wholes
+pub mod CompleteMakes
+pub mod CompleteForms
+pub mod CompleteChecked
+pub mod ChainMakes
+pub mod ChainChecked
+pub mod ChainSizes

@@ -1,0 +1,5 @@
+pub mod Answer
+pub mod Slices
+pub mod Both
+pub mod Completed
+pub mod Chained

@@ -1,0 +1,124 @@
+// Maximising and minimising over tables that were tested. The public operations and the programs come through here.
+use likely::forms::Outcome;
+use likely::forms::form_by_parts;
+use canonical::buffer::buffer;
+use canonical::form::Canon;
+use canonical::form::Form;
+use canonical::form::canonical_form;
+ghost use mathlib.Core.Path.{_≡_};
+ghost use mathlib.Core.List.{List, []};
+ghost use Prim.Native.Nat.{ℕ, _≤_};
+ghost use lib.ListN.{length};
+ghost use Rattle.standard.specs.Delivery.{given};
+ghost use Rattle.standard.specs.Table.{tablesOf};
+ghost use Rattle.standard.specs.Make.{make};
+ghost use Rattle.table.specs.Hints.{Hinted};
+ghost use Rattle.likely.specs.Parts.{Parts};
+ghost use Rattle.likely.specs.Forms.{givenBy, madeParts, ReadyFor};
+ghost use Rattle.operations.specs.Slices.{Slices};
+ghost use Rattle.operations.specs.Completed.{givenAnswered, outcomeAnswer, answerBy};
+ghost use Rattle.operations.specs.Both.{TestedBoth, operationOf};
+use crate::delivery::Answer;
+use crate::delivery::refuse;
+use crate::delivery::refused;
+
+// The refusal of canonicalising, which stands, or what was made.
+pub enum Answered {
+    Refused(Canon),
+    Made(Outcome),
+}
+
+// The maximised or minimised form of the canonical form in buf.
+pub fn from_form<'a>(
+    shorten: bool,
+    buf: &'a [u8],
+    f: Form,
+    likely: &'a [u8],
+    hints: &[u16],
+    out: &mut [u8],
+) -> Outcome
+    requires { ⌜ (f .language ≤ f .script) × (f .script ≤ f .region) × (f .region ≤ f .len) × (f .len ≤ length (now buf)) ⌝ }
+    ensures { λ r. ⌜ ((p : Parts) → (rest : List ℕ) → Slices (now (buf .entry)) (p .language) (p .script) (p .region) rest (f .language) (f .script) (f .region) (f .len) → ReadyFor (now (likely .entry)) (now (hints .entry)) p
+        → givenBy r (now (out .exit)) ≡ given (madeParts shorten (now (likely .entry)) rest p) (now (out .entry))) ⌝ }
+{
+    let l = f.language;
+    let s = f.script;
+    let r = f.region;
+    let n = f.len;
+    form_by_parts(
+        shorten,
+        &buf[..l],
+        &buf[l..s],
+        &buf[s..r],
+        &buf[r..n],
+        likely,
+        hints,
+        out,
+    )
+}
+
+// The maximised form of an identifier, or with shorten the minimised one. Both first canonicalise. Each table's hints stand
+// behind it.
+pub fn form_hinted(
+    shorten: bool,
+    id: &[u8],
+    aliases: &[u8],
+    alias_hints: &[u16],
+    likely: &[u8],
+    likely_hints: &[u16],
+    out: &mut [u8],
+) -> Answered
+    requires { ⌜ TestedBoth (now aliases) (now likely) × Hinted (now aliases) (now «alias_hints») × Hinted (now likely) (now «likely_hints») ⌝ }
+    ensures { λ r. ⌜ givenAnswered r (now (out .exit)) ≡ given (make (tablesOf (now (aliases .entry)) (now (likely .entry)) []) (operationOf shorten) (now (id .entry))) (now (out .entry)) ⌝ }
+{
+    let mut buf = buffer();
+    let c = canonical_form(id, aliases, alias_hints, &mut buf);
+    let Canon::Formed(f) = c else {
+        return Answered::Refused(c);
+    };
+    Answered::Made(from_form(shorten, &buf, f, likely, likely_hints, out))
+}
+
+// The same without hints.
+pub fn form_tested(
+    shorten: bool,
+    id: &[u8],
+    aliases: &[u8],
+    likely: &[u8],
+    out: &mut [u8],
+) -> Answered
+    requires { ⌜ TestedBoth (now aliases) (now likely) ⌝ }
+    ensures { λ r. ⌜ givenAnswered r (now (out .exit)) ≡ given (make (tablesOf (now (aliases .entry)) (now (likely .entry)) []) (operationOf shorten) (now (id .entry))) (now (out .entry)) ⌝ }
+{
+    let none = [0u16; 1];
+    let empty = &none[..0];
+    form_hinted(shorten, id, aliases, empty, likely, empty, out)
+}
+
+// The number and length of an outcome.
+fn outcome_answer(o: Outcome) -> Answer
+    ensures { λ r. ⌜ r ≡ outcomeAnswer o ⌝ }
+{
+    match o {
+        Outcome::Done(len) => Answer {
+            number: 0,
+            table: 0,
+            place: 0,
+            len,
+            steps: 0,
+        },
+        Outcome::NoRow => refuse(8, 0, 0),
+        Outcome::Long => refuse(9, 0, 0),
+        Outcome::Short => refuse(10, 0, 0),
+    }
+}
+
+// Where canonicalising refuses, its answer stands.
+pub fn answer(a: Answered) -> Answer
+    ensures { λ r. ⌜ r ≡ answerBy a ⌝ }
+{
+    match a {
+        Answered::Refused(c) => refused(c),
+        Answered::Made(o) => outcome_answer(o),
+    }
+}

@@ -1,0 +1,5 @@
+// Inner: the four operations over tables that passed the check. `altazhbey` has them for any tables.
+pub mod canonicalise;
+pub mod chain;
+pub mod complete;
+pub mod delivery;

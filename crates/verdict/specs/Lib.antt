@@ -1,4 +1,0 @@
-pub mod Keys
-pub mod Walk
-pub mod Free
-pub mod Verdicts
