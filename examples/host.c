@@ -1,7 +1,7 @@
 /* A host program: prints the minimised form of each argument and its chain of parents, over the tables of tables/.
  * From the repository's root:
- *   rt staticlib store
- *   cc -Iinclude examples/host.c target/staticlib/libstore.a -o target/example && target/example iw_IL en-AU en-US-Latn */
+ *   rt staticlib c_api
+ *   cc -Iinclude examples/host.c target/staticlib/libc_api.a -o target/example && target/example iw_IL en-AU en-US-Latn */
 #include <stdio.h>
 #include <string.h>
 #include "altazhbey.h"

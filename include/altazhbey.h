@@ -1,4 +1,4 @@
-/* Altazhbey: Unicode locale identifiers over lent bytes. Link libstore.a.
+/* Altazhbey: Unicode locale identifiers over lent bytes. Link libc_api.a.
  *
  * Each function answers for every input: it reads id and the tables, which are lent for the call, and writes only the
  * front of out, and only with number 0. It keeps nothing and allocates nothing, takes some 70 KiB of stack, and of the

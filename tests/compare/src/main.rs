@@ -2,7 +2,7 @@
 //! `N passed, M failed`.
 
 mod files;
-mod probe;
+mod test_api;
 
 use compare::Tally;
 use second::gen::{self, Rng};
@@ -65,23 +65,23 @@ fn compare_tables(rounds: usize) -> Tally {
         let theirs = second::check(&a, &l, &p);
         *tally.numbers.entry(theirs.number).or_default() += 1;
         let passed = theirs.number == 0;
-        tally.note("check", probe::check(&a, &l, &p), theirs, &[&a, &l, &p]);
+        tally.note("check", test_api::check(&a, &l, &p), theirs, &[&a, &l, &p]);
         let t = [&a, &l, &p][round % 3];
         let k = key(&mut rng, t);
-        tally.note("lookup", probe::lookup(t, &k), second::lookup(t, &k), &[t, &k]);
+        tally.note("lookup", test_api::lookup(t, &k), second::lookup(t, &k), &[t, &k]);
         if passed {
-            tally.note("lookup by hints", probe::hinted(t, &k), second::lookup(t, &k), &[t, &k]);
+            tally.note("lookup by hints", test_api::hinted(t, &k), second::lookup(t, &k), &[t, &k]);
         }
     }
     let odd = odd_tables(&mut rng);
     let (a, l, p) = gen::good_tables(&mut rng);
     for t in &odd {
-        tally.note("check", probe::check(t, &l, &p), second::check(t, &l, &p), &[t]);
-        tally.note("check", probe::check(&a, t, &p), second::check(&a, t, &p), &[t]);
-        tally.note("check", probe::check(&a, &l, t), second::check(&a, &l, t), &[t]);
+        tally.note("check", test_api::check(t, &l, &p), second::check(t, &l, &p), &[t]);
+        tally.note("check", test_api::check(&a, t, &p), second::check(&a, t, &p), &[t]);
+        tally.note("check", test_api::check(&a, &l, t), second::check(&a, &l, t), &[t]);
         for _ in 0..4 {
             let k = key(&mut rng, t);
-            tally.note("lookup", probe::lookup(t, &k), second::lookup(t, &k), &[t, &k]);
+            tally.note("lookup", test_api::lookup(t, &k), second::lookup(t, &k), &[t, &k]);
         }
     }
     tally

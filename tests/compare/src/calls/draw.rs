@@ -1,6 +1,6 @@
 //! Seeded random tables and identifiers beside those of `second::gen`: crowded ones, and ones over CLDR's tables.
 
-use crate::store::Set;
+use crate::c_api::Set;
 use second::gen::{self, Rng};
 use std::collections::BTreeMap;
 

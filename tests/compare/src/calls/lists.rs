@@ -2,7 +2,7 @@
 
 use crate::draw;
 use crate::random::{lent, GUARD};
-use crate::store::{Operation, Set};
+use crate::c_api::{Operation, Set};
 use compare::Tally;
 use second::gen::{self, Rng};
 use second::Answer;

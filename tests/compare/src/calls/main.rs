@@ -4,10 +4,10 @@
 mod draw;
 mod lists;
 mod random;
-mod store;
+mod c_api;
 
 use compare::Tally;
-use store::Operation;
+use c_api::Operation;
 
 /// The bytes of a hex text.
 fn bytes(hex: &str) -> Vec<u8> {
@@ -27,7 +27,7 @@ fn answer(case: &str) -> String {
     };
     let mut out = vec![0x2E; lent.parse().expect("a length")];
     let other = bytes(tables.get(1).unwrap_or(&""));
-    let a = store::call(operation, &bytes(id), &bytes(tables[0]), &other, &mut out);
+    let a = c_api::call(operation, &bytes(id), &bytes(tables[0]), &other, &mut out);
     let hex: String = out.iter().map(|b| format!("{b:02x}")).collect();
     format!("{}\t{}\t{}\t{}\t{}\t{hex}", a.number, a.table, a.place, a.length, a.steps)
 }

@@ -2,7 +2,7 @@
 //! output and guard bytes around it.
 
 use crate::draw::{self, Published};
-use crate::store::{Operation, Set, OPERATIONS};
+use crate::c_api::{Operation, Set, OPERATIONS};
 use compare::Tally;
 use second::gen::{self, Rng};
 use second::Answer;
