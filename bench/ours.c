@@ -1,6 +1,6 @@
 /* Our side of the benchmark, over tested tables: lookup, check, reading and the four operations, called from C.
- * Prints lines of a row's name, a tab and nanoseconds. Run in the repository's folder; the argument is the file of
- * identifiers. */
+ * Prints lines of a row's name, a tab and nanoseconds; with --count, under callgrind, it leaves counts instead. Run in
+ * the repository's folder; the last argument is the file of identifiers. */
 #include "measure.h"
 
 uint64_t probe_lookup(const uint8_t *t, size_t t_len, const uint8_t *key, size_t key_len);
@@ -20,24 +20,35 @@ static uint64_t (*repeat)(uint8_t, const uint8_t *, size_t, const uint8_t *, siz
 
 enum { CANONICALISE, MAXIMISE, MINIMISE, CHAIN };
 
+/* When counting, one in so many identifiers is enough. */
+enum { ONE_IN = 10 };
+
 static file identifiers, longest;
 static text keys[LINES], ids[LINES], long_ids[LINES], asked;
 static size_t key_count, id_count, long_count;
 
 /* ---- lookup and check ---- */
 
-static void by_halves(void) {
-    for (size_t k = 0; k < key_count; k++) sink += probe_sorted(FILE_OF(likely), TEXT_OF(keys[k]));
+static void by_halves(uint32_t times) {
+    while (times--) {
+        for (size_t k = 0; k < key_count; k++) sink += probe_sorted(FILE_OF(likely), TEXT_OF(keys[k]));
+    }
 }
 
-static void by_lines(void) {
-    for (size_t k = 0; k < key_count; k++) sink += probe_lookup(FILE_OF(likely), TEXT_OF(keys[k]));
+static void by_lines(uint32_t times) {
+    while (times--) {
+        for (size_t k = 0; k < key_count; k++) sink += probe_lookup(FILE_OF(likely), TEXT_OF(keys[k]));
+    }
 }
 
-static void check(void) { sink += probe_check(FILE_OF(aliases), FILE_OF(likely), FILE_OF(parents)); }
+static void check(uint32_t times) {
+    while (times--) sink += probe_check(FILE_OF(aliases), FILE_OF(likely), FILE_OF(parents));
+}
 
 static file grown[3];
-static void check_grown(void) { sink += probe_check(FILE_OF(grown[0]), FILE_OF(grown[1]), FILE_OF(grown[2])); }
+static void check_grown(uint32_t times) {
+    while (times--) sink += probe_check(FILE_OF(grown[0]), FILE_OF(grown[1]), FILE_OF(grown[2]));
+}
 
 /* Three good tables with so many rows each; 2,000 is near what a table may have. */
 static void grow(int rows) {
@@ -55,91 +66,103 @@ static void grow(int rows) {
 /* ---- reading and the operations ---- */
 
 /* One call a reading: no compiler can take these out of the loop. */
-static void read_asked(void) {
-    for (int k = 0; k < 1000; k++) sink += probe_read(TEXT_OF(asked), 0);
+static void read_asked(uint32_t times) {
+    while (times--) sink += probe_read(TEXT_OF(asked), 0);
 }
 
-static double reading(text id) {
-    asked = id;
-    return best(read_asked) / 1000;
-}
+static uint8_t operation;
 
-/* The best of two passes over the identifiers, each so many times. */
-static double passes(uint8_t operation, const text *of, size_t count, uint32_t times) {
+/* What is fixed is the test of the tables and the first time. */
+static void operate(text id, uint32_t times) {
     const file *other = operation == CHAIN ? &parents : &likely;
-    double least = 1e18;
-    for (int m = 0; m < MEASURES; m++) {
-        double start = now();
-        for (size_t k = 0; k < count; k++) {
-            sink += repeat(operation, TEXT_OF(of[k]), FILE_OF(aliases), FILE_OF(*other), out, sizeof out, times);
-        }
-        if (now() - start < least) least = now() - start;
-    }
-    return least;
+    sink += repeat(operation, TEXT_OF(id), FILE_OF(aliases), FILE_OF(*other), out, sizeof out, times);
 }
 
-/* Nanoseconds of one operation: the difference of two numbers of times takes the test of the tables away. */
-static double operating(uint8_t operation, const text *of, size_t count, uint32_t times) {
-    return (passes(operation, of, count, times) - passes(operation, of, count, 0)) / times / count;
+static void operate_asked(uint32_t times) { operate(asked, times); }
+
+static void operate_all(uint32_t times) {
+    for (size_t k = 0; k < id_count; k++) operate(ids[k], times);
 }
 
-static double one(uint8_t operation, const char *id) {
-    text t = text_of(id);
-    return operating(operation, &t, 1, 20000);
+/* ---- rows ---- */
+
+static void say_read(const char *label, text id, uint32_t times) {
+    asked = id;
+    say(label, read_asked, 1, times);
 }
 
-static double all(uint8_t operation) { return operating(operation, ids, id_count, 200); }
+static void say_one(const char *label, uint8_t of, text id, uint32_t times) {
+    operation = of;
+    asked = id;
+    say(label, operate_asked, 1, times);
+}
 
-static double canonicalising(text id) { return operating(CANONICALISE, &id, 1, 2000); }
+static void say_canonicalise(const char *label, text id, uint32_t times) { say_one(label, CANONICALISE, id, times); }
 
-/* The slowest of the long identifiers, with its kind in the row's name. */
-static void say_worst(const char *name, double (*measure)(text)) {
-    double worst = 0;
-    text kind = {0};
+static void say_all(const char *label, uint8_t of, uint32_t times) {
+    operation = of;
+    say(label, operate_all, id_count, times);
+}
+
+/* A row with a kind for each of the long identifiers. */
+static void say_worst(const char *row, void (*say_kind)(const char *, text, uint32_t), uint32_t times) {
     for (size_t k = 0; k < long_count; k++) {
         const uint8_t *tab = memchr(long_ids[k].at, '\t', long_ids[k].len);
-        double taken = measure((text){tab + 1, long_ids[k].at + long_ids[k].len - tab - 1});
-        if (taken > worst) { worst = taken; kind = (text){long_ids[k].at, tab - long_ids[k].at}; }
+        char label[128];
+        snprintf(label, sizeof label, "%s\t%.*s", row, (int)(tab - long_ids[k].at), long_ids[k].at);
+        say_kind(label, (text){tab + 1, long_ids[k].at + long_ids[k].len - tab - 1}, times);
     }
-    fprintf(stderr, "%s: the slowest of %zu kinds: %.*s\n", name, long_count, (int)kind.len, kind.at);
-    say(name, worst);
 }
 
-int main(int argc, char **argv) {
-    need("usage: ours FILE", argc == 2);
+static void thin_identifiers(void) {
+    size_t kept = 0;
+    for (size_t k = 0; k < id_count; k += ONE_IN) ids[kept++] = ids[k];
+    id_count = kept;
+}
+
+static void load_all(const char *path) {
     load_tables();
-    load(argv[1], &identifiers);
+    load(path, &identifiers);
     load("bench/long.txt", &longest);
     id_count = lines_of(&identifiers, ids);
     long_count = lines_of(&longest, long_ids);
     key_count = lines_of(&likely, keys);
     for (size_t k = 0; k < key_count; k++) keys[k].len = (const uint8_t *)memchr(keys[k].at, '\t', keys[k].len) - keys[k].at;
+    if (counting) thin_identifiers();
+    need("no identifiers", id_count && long_count && key_count);
     need("the tables do not pass", probe_check(FILE_OF(aliases), FILE_OF(likely), FILE_OF(parents)) == 0);
+}
 
-    say("lookup", best(by_halves) / key_count);
-    say("lookup by lines", best(by_lines) / key_count);
-    say("check", best(check));
+/* The last number of each row is how often to repeat at first: about what is enough. */
+int main(int argc, char **argv) {
+    counting = argc == 3 && !strcmp(argv[1], "--count");
+    need("usage: ours [--count] FILE", argc == 2 || counting);
+    load_all(argv[argc - 1]);
+
+    say("lookup", by_halves, key_count, 1 << 10);
+    say("lookup by lines", by_lines, key_count, 1 << 5);
+    say("check", check, 1, 1 << 11);
     for (int rows = 250; rows <= 2000; rows *= 2) {
         char name[32];
         snprintf(name, sizeof name, "check, %d rows each", rows);
         grow(rows);
-        say(name, best(check_grown));
+        say(name, check_grown, 1, 1 << 11);
     }
-    say("read en-Latn-US", reading(text_of("en-Latn-US")));
-    say_worst("read, worst", reading);
-    say("canonicalise iw_IL", one(CANONICALISE, "iw_IL"));
-    say("canonicalise en-US-u-KN-true-ca-gregory", one(CANONICALISE, "en-US-u-KN-true-ca-gregory"));
-    say_worst("canonicalise, worst", canonicalising);
-    say("maximise en-AU", one(MAXIMISE, "en-AU"));
-    say("minimise en-AU", one(MINIMISE, "en-AU"));
-    say("chain en-AU", one(CHAIN, "en-AU"));
-    say("canonicalise", all(CANONICALISE));
-    say("maximise", all(MAXIMISE));
-    say("minimise", all(MINIMISE));
-    say("chain", all(CHAIN));
+    say_read("read en-Latn-US", text_of("en-Latn-US"), 1 << 22);
+    say_worst("read, worst", say_read, 1 << 18);
+    say_one("canonicalise iw_IL", CANONICALISE, text_of("iw_IL"), 1 << 20);
+    say_one("canonicalise en-US-u-KN-true-ca-gregory", CANONICALISE, text_of("en-US-u-KN-true-ca-gregory"), 1 << 19);
+    say_worst("canonicalise, worst", say_canonicalise, 1 << 15);
+    say_one("maximise en-AU", MAXIMISE, text_of("en-AU"), 1 << 19);
+    say_one("minimise en-AU", MINIMISE, text_of("en-AU"), 1 << 18);
+    say_one("chain en-AU", CHAIN, text_of("en-AU"), 1 << 19);
+    say_all("canonicalise", CANONICALISE, 1 << 11);
+    say_all("maximise", MAXIMISE, 1 << 12);
+    say_all("minimise", MINIMISE, 3000);
+    say_all("chain", CHAIN, 1 << 11);
     repeat = probe_repeat_hinted;
-    say("canonicalise, by hints", all(CANONICALISE));
-    say("maximise, by hints", all(MAXIMISE));
-    say("minimise, by hints", all(MINIMISE));
-    return 0;
+    say_all("canonicalise, by hints", CANONICALISE, 1 << 13);
+    say_all("maximise, by hints", MAXIMISE, 14000);
+    say_all("minimise, by hints", MINIMISE, 10000);
+    return failed;
 }

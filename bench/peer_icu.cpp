@@ -9,10 +9,10 @@
 // doesn't take `_`, and needs a call of `canonicalize` for the aliases.
 // `toLanguageTag` into a buffer on the stack corresponds to writing the result.
 
-#include <chrono>
 #include <cstdint>
 #include <cstdio>
 #include <cstring>
+#include <ctime>
 #include <fstream>
 #include <string>
 #include <vector>
@@ -72,29 +72,24 @@ Function function_of(Operation operation) {
 // The results' lengths are summed, so that no call can be left out.
 uint64_t sum = 0;
 
-// Seconds for so many passes over the identifiers.
+// Seconds of the processor for so many passes over the identifiers: the clock that ours has too.
 double seconds(const std::vector<std::string> &identifiers, Function make, long passes) {
     char out[512];
-    auto start = std::chrono::steady_clock::now();
+    std::clock_t start = std::clock();
     for (long pass = 0; pass < passes; pass++) {
         for (const std::string &identifier : identifiers) {
             sum += make(identifier.c_str(), out, sizeof out);
         }
     }
-    return std::chrono::duration<double>(std::chrono::steady_clock::now() - start).count();
+    return static_cast<double>(std::clock() - start) / CLOCKS_PER_SEC;
 }
 
-// The best of two measures of about half a second each.
+// One measure of about a second.
 double nanoseconds(const std::vector<std::string> &identifiers, Function make) {
     seconds(identifiers, make, 1);
-    double once = seconds(identifiers, make, 1);
-    long passes = once < 0.5 ? static_cast<long>(0.5 / once) + 1 : 1;
-    double best = seconds(identifiers, make, passes);
-    for (int again = 1; again < 2; again++) {
-        double taken = seconds(identifiers, make, passes);
-        best = taken < best ? taken : best;
-    }
-    return best * 1e9 / (static_cast<double>(passes) * static_cast<double>(identifiers.size()));
+    long passes = static_cast<long>(1 / seconds(identifiers, make, 1)) + 1;
+    double taken = seconds(identifiers, make, passes);
+    return taken * 1e9 / (static_cast<double>(passes) * static_cast<double>(identifiers.size()));
 }
 
 std::vector<std::string> lines_of(const char *path) {
