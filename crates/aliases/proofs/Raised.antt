@@ -5,26 +5,26 @@ use Prim.Native.Nat.{ℕ, _≤_, _<_}
 use native.Mathlib.Omega.{arith}
 use lib.ListN.{length}
 use Rattle.standard.specs.Tag.{Tag, pick}
-use Rattle.subtag.specs.Bytes.{raised}
+use Rattle.subtag.specs.Bytes.{cased}
 use Rattle.subtag.proofs.Raised.{raised-length, raised-nil}
 
 -- the first that is present, of a raised one
-pub pick-none : (n : ℕ) (t y : Tag) → length t ≡ 0 → pick (raised n t) y ≡ y
+pub pick-none : (n : ℕ) (t y : Tag) → length t ≡ 0 → pick (cased n t) y ≡ y
 unfolding pick
 pick-none n [] y h = ap (λ (x : Tag). pick x y) (raised-nil n)
 pick-none n (b ∷ t) y h = absurd (omega arith)
 
-pub pick-some : (n : ℕ) (t y : Tag) → 0 < length t → pick (raised n t) y ≡ raised n t
+pub pick-some : (n : ℕ) (t y : Tag) → 0 < length t → pick (cased n t) y ≡ cased n t
 unfolding pick
-pick-some n t y h = go (raised n t) (omega (arith, raised-length n t))
+pick-some n t y h = go (cased n t) (omega (arith, raised-length n t))
   where
     go : (x : Tag) → 0 < length x → pick x y ≡ x
     go [] h = absurd (omega arith)
     go (b ∷ bs) h = refl
 
-pub pick-small : (m n : ℕ) (t y : Tag) → length t ≤ m → length y ≤ m → length (pick (raised n t) y) ≤ m
+pub pick-small : (m n : ℕ) (t y : Tag) → length t ≤ m → length y ≤ m → length (pick (cased n t) y) ≤ m
 unfolding pick
-pick-small m n t y h k = go (raised n t) (omega (arith, raised-length n t))
+pick-small m n t y h k = go (cased n t) (omega (arith, raised-length n t))
   where
     go : (x : Tag) → length x ≤ m → length (pick x y) ≤ m
     go [] l = k

@@ -1,21 +1,32 @@
 // Opens aliases.tsv and likely.tsv in the current folder, reads usage lines from standard input (a member, a tab and an
 // identifier), and prints the bill. Bytes after the last 0A are a line unless there are none.
-use libc::STDIN_FILENO;
-use libc::STDOUT_FILENO;
 use bill_lines::Counts;
-use bill_lines::input;
+use libc::STDOUT_FILENO;
+use program_io::input;
+use program_io::input::Input;
 use program_io::load;
 ghost use mathlib.Core.Path.{_≡_};
+ghost use mathlib.Core.List.{List};
 ghost use Prim.Native.Nat.{_≤_};
-ghost use lib.ListN.{length, take};
+ghost use lib.ListN.{length};
 ghost use Rattle.standard.specs.Delivery.{Bytes};
-ghost use Rattle.table.specs.Lines.{lines};
 ghost use Rattle.bill_ledger.specs.Up.{Sized};
-ghost use Rattle.bill_lines.specs.Held.{Held};
-ghost use Rattle.bill_lines.specs.Text.{monthText};
+ghost use Rattle.program_io.specs.Handed.{Room};
+ghost use Rattle.bill.specs.Billed.{Bills, Makes};
 
-// Takes the input to its end into the bill: what it holds then is the bill of the lines of some bytes, those that were
-// read. A proved loop has to end, so it counts its turns down from a number that no run uses up.
+// The counts of the bill, and the input as it was read.
+struct Billed {
+    counts: Counts,
+    input: Input,
+}
+
+// The length of the bill's text, and the input as it was read.
+struct Made {
+    len: usize,
+    input: Input,
+}
+
+// Takes the input to its end into the bill.
 fn take_input(
     aliases: &[u8],
     likely: &[u8],
@@ -23,22 +34,20 @@ fn take_input(
     piece: &mut [u8],
     keys: &mut [u8],
     counts: &mut [u64],
-) -> Counts
-    requires { ⌜ (length (now piece) ≡ 262404) × Sized (now keys) (now counts) ⌝ }
-    ensures { λ r. ⌜ ((x : Bytes) × Held (now (aliases .entry)) (now (likely .entry)) (lines x) r (now (keys .exit)) (now (counts .exit))) ⌝ }
+) -> Billed
+    requires { ⌜ Room (length (now block)) (length (now piece)) × Sized (now keys) (now counts) ⌝ }
+    ensures { λ r. ⌜ ((bs : List Bytes) × Bills (now (aliases .entry)) (now (likely .entry)) bs r (now (keys .exit)) (now (counts .exit))) ⌝ }
 {
-    let mut i = input::begin(aliases, likely);
-    let mut turns = u64::MAX;
-    while turns > 0 {
-        let got = libc::read(STDIN_FILENO, block);
-        let n = io::count(got, block);
-        if n == 0 {
-            return input::end(i, aliases, likely, piece, keys, counts);
+    let mut input = input::begin();
+    let mut c = bill_lines::start(aliases, likely);
+    loop {
+        input = input::next(input, block, piece);
+        let whole = input::whole(input);
+        c = bill_lines::add(c, &piece[..whole], aliases, likely, keys, counts);
+        if input::is_ended(input) {
+            return Billed { counts: c, input };
         }
-        i = input::take_block(i, &block[..n], aliases, likely, piece, keys, counts);
-        turns -= 1;
     }
-    input::end(i, aliases, likely, piece, keys, counts)
 }
 
 // The arrays of a bill.
@@ -54,21 +63,26 @@ fn count_room() -> [u64; 1024]
     [0; 1024]
 }
 
-// Makes the text of the bill at the front of the block, and gives its length: the text for the lines that were read.
-fn make_text(aliases: &[u8], likely: &[u8], block: &mut [u8]) -> usize
-    requires { ⌜ 65536 ≤ length (now block) ⌝ }
-    ensures { λ r. ⌜ (r ≤ length (now (block .exit))) × ((x : Bytes) × (take r (now (block .exit)) ≡ monthText (now (aliases .entry)) (now (likely .entry)) (lines x))) ⌝ }
+// Makes the text of the bill at the front of the block: the text for the lines that were read.
+fn make_text(aliases: &[u8], likely: &[u8], block: &mut [u8]) -> Made
+    requires { ⌜ (65536 ≤ length (now block)) × (length (now block) ≤ 262144) ⌝ }
+    ensures { λ r. let block′ = now (block .exit) in let aliases = now (aliases .entry) in let likely = now (likely .entry) in
+        ⌜ (r .len ≤ length block′) × ((bs : List Bytes) × Makes aliases likely bs r block′) ⌝ }
 {
-    let mut piece = program_io::input::piece_buffer();
+    let mut piece = input::piece_buffer();
     let mut keys = key_room();
     let mut counts = count_room();
-    let c = take_input(aliases, likely, block, &mut piece, &mut keys, &mut counts);
-    bill_lines::text::write(c, &keys, &counts, block)
+    let b = take_input(aliases, likely, block, &mut piece, &mut keys, &mut counts);
+    let c = b.counts;
+    let input = b.input;
+    let len = bill_lines::text::write(c, &keys, &counts, block);
+    Made { len, input }
 }
 
 fn run(aliases: &[u8], likely: &[u8]) {
-    let mut block = program_io::input::block_buffer();
-    let len = make_text(aliases, likely, &mut block);
+    let mut block = input::block_buffer();
+    let m = make_text(aliases, likely, &mut block);
+    let len = m.len;
     io::write_all(STDOUT_FILENO, &block[..len]);
 }
 

@@ -5,7 +5,7 @@ use mathlib.Core.List.{List, [], _∷_}
 use Prim.Native.Nat.{Ordering, Ordering·lt, Ordering·eq, Ordering·gt}
 use lib.Dec.{isEq}
 use Rattle.standard.specs.Tag.{Tag, order, same}
-use Rattle.standard.proofs.Bytes.{clash}
+use Rattle.standard.proofs.General.{clash}
 use Rattle.bill_rules.specs.Bill.{Usage}
 use Rattle.bill_ledger.specs.Entries.{Entry, fresh, again, addTo, placeIn, insertAt, changeAt, hitAt}
 

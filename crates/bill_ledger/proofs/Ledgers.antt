@@ -9,7 +9,7 @@ use lib.ListN.{length}
 use Rattle.standard.specs.Tag.{Tag, order, same, insertBy, sortBy, itself}
 use Rattle.standard.proofs.Tags.{order-flip, order-eq, same-refl, flip, Ascending, sort-ascending}
 use Rattle.standard.proofs.Faults.{order-trans}
-use Rattle.standard.proofs.Bytes.{clash}
+use Rattle.standard.proofs.General.{clash}
 use Rattle.bill_rules.specs.Bill.{Usage, keysOf, more, deliveries}
 use Rattle.bill_rules.proofs.Keys.{elem, same-sym, below-out, ascending-rest, elem-sorted}
 use Rattle.bill_rules.proofs.Orders.{ins-lt, ins-eq, ins-gt}

@@ -9,8 +9,7 @@ use lib.Bits.{bitOr, or-step, or-zero-r}
 use lib.Count.{ones}
 use lib.Dec.{eqb, leb}
 use borrow.Author.Tests.{eq-eqb, ne-eqb, eqb-true, eqb-false, leb-true, leb-false}
-use Rattle.standard.specs.Tag.{Tag, same}
-use Rattle.standard.proofs.Tags.{All}
+use Rattle.standard.specs.Tag.{Tag, same, All}
 use Rattle.bill_rules.specs.Bill.{Usage, more, used, membersUpTo, members}
 use Rattle.reader.specs.Marks.{bit}
 use Rattle.reader.proofs.Bits.{ones-mark, bit-mark-same, bit-mark-other, or-mark, bit-zero}

@@ -1,5 +1,5 @@
-// The entries of a bill that is being made, in two lent arrays: the keys in byte order, 32 bytes for each, its length
-// first; and for each its members' marks and its deliveries, side by side.
+// Inner. The entries of a bill that is being made, in two lent arrays: the keys in byte order, 32 bytes for each, its
+// length first; and for each its members' marks and its deliveries, side by side.
 use byte_string::Order;
 use byte_string::put;
 ghost use mathlib.Core.Path.{_≡_};
@@ -9,8 +9,8 @@ ghost use Prim.Native.Nat.{ℕ, _+_, _*_, _≤_, _<_};
 ghost use lib.ListN.{length, getD};
 ghost use Rattle.standard.specs.Tag.{order};
 ghost use Rattle.standard.specs.Delivery.{Bytes};
-ghost use Rattle.bill_ledger.specs.Entries.{placeIn, hitAt, insertAt, changeAt, fresh, again, markOf};
 ghost use Rattle.bill_rules.specs.Bill.{Usage};
+ghost use Rattle.bill_ledger.specs.Entries.{placeIn, hitAt, insertAt, changeAt, fresh, again, markOf};
 ghost use Rattle.bill_ledger.specs.Places.{isLt, atMost31, textAt, entriesFrom, Moved, KeyMore, CountsMore};
 ghost use Rattle.bill_ledger.specs.Up.{Up, Few, Sized, Added};
 
@@ -50,7 +50,8 @@ fn is_below(keys: &[u8], i: usize, key: &[u8]) -> bool
 // How many of the n keys are below this one: a search by halves.
 fn place_of(keys: &[u8], n: usize, key: &[u8]) -> usize
     requires { ⌜ (n ≤ 512) × (length (now keys) ≡ 16384) ⌝ }
-    ensures { λ r. ⌜ (r ≤ n) × ((cs : List ℕ) → Up (entriesFrom (now (keys .entry)) cs 0 n) → r ≡ placeIn (now (key .entry)) (entriesFrom (now (keys .entry)) cs 0 n)) ⌝ }
+    ensures { λ r. let keys = now (keys .entry) in let key = now (key .entry) in
+        ⌜ (r ≤ n) × ((cs : List ℕ) → Up (entriesFrom keys cs 0 n) → r ≡ placeIn key (entriesFrom keys cs 0 n)) ⌝ }
 {
     let mut lo = 0;
     let mut hi = n;
@@ -148,8 +149,10 @@ fn change(counts: &mut [u64], at: usize, mark: u64)
 // The first usage of a key, at the place.
 fn insert(keys: &mut [u8], counts: &mut [u64], n: usize, at: usize, key: &[u8], mark: u64)
     requires { ⌜ (n < 512) × (at ≤ n) × Sized (now keys) (now counts) × (length (now key) ≤ 31) ⌝ }
-    ensures { λ _. ⌜ Sized (now (keys .exit)) (now (counts .exit))
-        × ((u : Usage) → u .key ≡ now (key .entry) → mark ≡ markOf (u .member) → entriesFrom (now (keys .exit)) (now (counts .exit)) 0 (n + 1) ≡ insertAt at (fresh u) (entriesFrom (now (keys .entry)) (now (counts .entry)) 0 n)) ⌝ }
+    ensures { λ _. let keys′ = now (keys .exit) in let counts′ = now (counts .exit) in let key = now (key .entry) in let keys = now (keys .entry) in
+        let counts = now (counts .entry) in
+        ⌜ Sized keys′ counts′
+        × ((u : Usage) → u .key ≡ key → mark ≡ markOf (u .member) → entriesFrom keys′ counts′ 0 (n + 1) ≡ insertAt at (fresh u) (entriesFrom keys counts 0 n)) ⌝ }
 {
     insert_key(keys, n, at, key);
     insert_counts(counts, n, at, mark);
@@ -166,10 +169,11 @@ fn mark_of(member: u8) -> u64
 // Adds a usage to the n entries, and answers how many there are then; 513 where there is no room, and nothing is written.
 pub fn add(keys: &mut [u8], counts: &mut [u64], n: usize, member: u8, key: &[u8]) -> usize
     requires { ⌜ (n ≤ 512) × Sized (now keys) (now counts) × (length (now key) ≤ 31) × (1 ≤ member) × (member ≤ 64) ⌝ }
-    ensures { λ r. ⌜ Sized (now (keys .exit)) (now (counts .exit)) × (r ≤ 513)
-        × ((u : Usage) → u .key ≡ now (key .entry) → u .member ≡ member → Up (entriesFrom (now (keys .entry)) (now (counts .entry)) 0 n) → Few (entriesFrom (now (keys .entry)) (now (counts .entry)) 0 n)
-        → Added u (entriesFrom (now (keys .entry)) (now (counts .entry)) 0 n) (now (keys .exit)) (now (counts .exit)) r)
-        × (512 < r → (now (keys .exit) ≡ now (keys .entry)) × (now (counts .exit) ≡ now (counts .entry))) ⌝ }
+    ensures { λ r. let keys′ = now (keys .exit) in let counts′ = now (counts .exit) in let key = now (key .entry) in let keys = now (keys .entry) in
+        let counts = now (counts .entry) in
+        ⌜ Sized keys′ counts′ × (r ≤ 513)
+        × ((u : Usage) → u .key ≡ key → u .member ≡ member → Up (entriesFrom keys counts 0 n) → Few (entriesFrom keys counts 0 n) → Added u (entriesFrom keys counts 0 n) keys′ counts′ r)
+        × (512 < r → (keys′ ≡ keys) × (counts′ ≡ counts)) ⌝ }
 {
     let mark = mark_of(member);
     let at = place_of(keys, n, key);

@@ -1,6 +1,5 @@
 -- The counts and the arrays print the bill of the lines taken. Assumes nothing.
 use mathlib.Core.Path.{_≡_, refl, sym, ap, ap₂, _∙_, subst}
-use mathlib.Core.Bool.{true, false}
 use mathlib.Core.Logic.{inl, inr}
 use mathlib.Core.List.{List, [], _∷_, _++_, map, reverseAux, append-nil}
 use mathlib.Core.Option.{Option, none, some, Option·none-ne-some}
@@ -9,11 +8,10 @@ use native.Mathlib.Omega.{arith}
 use lib.ListN.{length, take}
 use lib.Seq.{sets, take-all}
 use borrow.Author.Tests.{eq-eqb, ne-eqb, lt-ltb, le-ltb, lt-leb, le-leb}
-use Rattle.standard.specs.Tag.{Tag}
+use Rattle.standard.specs.Tag.{Tag, All}
 use Rattle.standard.specs.Identifier.{Tables}
 use Rattle.standard.specs.Delivery.{Bytes}
-use Rattle.standard.specs.Table.{TableFault, tablesOf, check}
-use Rattle.standard.proofs.Tags.{All}
+use Rattle.standard.specs.Table.{TableFault, tablesOf, check, toMaximise}
 use Rattle.standard.proofs.Numbers.{TableWithin, check-within}
 use Rattle.byte_string.proofs.Stores.{written}
 use Rattle.tsv.specs.Fields.{decimal, field, tableText}
@@ -86,7 +84,7 @@ module _ (c : Counts) (ks : Bytes) (cs : List ℕ) where
   unfolding countsText
   text-good e = rw (eq-eqb (c .number) 0 e)
 
-  pub text-table : (c .number ≡ 0 → ⊥) → c .number < 15 → countsText c ks cs ≡ tableText (c .number) (c .table) (c .place)
+  pub text-table : (c .number ≡ 0 → ⊥) → c .number < 15 → countsText c ks cs ≡ tableText (c .number) (c .place) (c .table)
   unfolding countsText
   text-table f h = rw (ne-eqb (c .number) 0 f, lt-ltb (c .number) 15 h)
 
@@ -103,14 +101,14 @@ good-text T ls c ks cs (inr s) =
 
 held-text : (A L : Bytes) (ls : List Bytes) (c : Counts) (ks : Bytes) (cs : List ℕ) → Held A L ls c ks cs → countsText c ks cs ≡ monthText A L ls
 unfolding monthText afterTables TableWithin faulted only
-held-text A L ls c ks cs h = go (check true false A L []) refl (check-within true false A L [])
+held-text A L ls c ks cs h = go (check toMaximise A L []) refl (check-within toMaximise A L [])
   where
-    go : (o : Option TableFault) → check true false A L [] ≡ o → TableWithin o → countsText c ks cs ≡ afterTables o (billText (billOf (tablesOf A L []) ls))
+    go : (o : Option TableFault) → check toMaximise A L [] ≡ o → TableWithin o → countsText c ks cs ≡ afterTables o (billText (billOf (tablesOf A L []) ls))
     go none e w = good-text (tablesOf A L []) ls c ks cs (h .good e)
     go (some f) e w =
         let n = h .bad f e in
         let y : c .number ≡ f .fault .number = ap (λ (x : Counts). x .number) n in
-        text-table c ks cs (λ (z : c .number ≡ 0). omega (arith, w .0, y, z)) (omega (arith, w .1, y)) ∙ ap (λ (x : Counts). tableText (x .number) (x .table) (x .place)) n
+        text-table c ks cs (λ (z : c .number ≡ 0). omega (arith, w .0, y, z)) (omega (arith, w .1, y)) ∙ ap (λ (x : Counts). tableText (x .number) (x .place) (x .table)) n
 
 -- what is written
 module _ (c : Counts) (ks : Bytes) (cs : List ℕ) (room : ℕ) where

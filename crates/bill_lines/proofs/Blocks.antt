@@ -2,26 +2,22 @@
 -- bytes, is the bill of the lines of the input. Assumes nothing.
 use mathlib.Core.Path.{_≡_, refl, sym, ap, ap₂, _∙_, subst}
 use mathlib.Core.Logic.{inl, inr, ⊎-elim}
-use mathlib.Core.List.{List, [], _∷_, _++_, map, reverseAux, append-assoc, append-nil}
+use mathlib.Core.List.{List, [], _∷_, _++_, map, reverseAux}
 use mathlib.Core.Option.{Option}
-use Prim.Native.Nat.{ℕ, zero, suc, _+_, _-_, _≤_, _<_}
-use native.Mathlib.Omega.{arith}
-use lib.ListN.{length, take, drop}
-use lib.Seq.{sets, length-sets, take-add, take-all}
+use Prim.Native.Nat.{ℕ, zero, suc}
+use lib.ListN.{length, take}
 use Rattle.standard.specs.Identifier.{Tables}
 use Rattle.standard.specs.Delivery.{Bytes}
 use Rattle.standard.specs.Table.{tablesOf}
 use Rattle.table.specs.Lines.{lines}
-use Rattle.lines.specs.Squeeze.{squeezed, runAfter, handedOver, unfinished, handed, allLines, together, Carries}
+use Rattle.lines.specs.Squeeze.{handedOver, handed, allLines, together}
 use Rattle.lines.proofs.Laws.{all-lines}
-use Rattle.lines.proofs.Blocks.{together-more, all-more, carried-start, carried-handed, carried-more}
+use Rattle.lines.proofs.Blocks.{all-more}
 use Rattle.bill_rules.specs.Bill.{Usage, usage, usages, accepted, refusals, refusing, more, billOf, mostLines}
 use Rattle.bill_ledger.specs.Ledger.{entriesOf}
 use Rattle.bill_lines.specs.declared.Counts.{Counts}
-use Rattle.bill_lines.specs.declared.input.Input.{Input}
 use Rattle.bill_lines.specs.State.{Going, Stopped, Good}
 use Rattle.bill_lines.specs.Held.{Held}
-use Rattle.bill_lines.specs.Fed.{Fed}
 use Rattle.bill_lines.proofs.Cuts.{usage-first}
 
 -- Lines that say the same, one by one.
@@ -98,50 +94,14 @@ held-cut A L ls c ks cs h = record {
   bad = h .bad;
 }
 
--- Nothing was read yet.
-pub fed-start : (A L : Bytes) (i : Input) (piece ks : Bytes) (cs : List ℕ) → i .kept ≡ 0 → Held A L [] (i .counts) ks cs → length piece ≡ 262404 → Fed A L [] i piece ks cs
-unfolding together allLines handedOver
-fed-start A L i piece ks cs e h n = record { blocks = []; input = refl; held = h; carried = subst (Carries [] piece) (sym e) (carried-start piece); room = n }
+-- A bill of the lines handed over in pieces: of none, and of one piece more.
+pub held-none : (A L : Bytes) (c : Counts) (ks : Bytes) (cs : List ℕ) → Held A L [] c ks cs → Held A L (allLines (handedOver [] [])) c ks cs
+unfolding allLines handedOver
+held-none A L c ks cs h = h
 
--- One block more.
-pub fed-more : (A L x : Bytes) (i j : Input) (b piece piece₁ piece₂ ks ks′ : Bytes) (cs cs′ : List ℕ) (whole end : ℕ) → Fed A L x i piece ks cs → length b ≤ 262144
-    → (end ≡ i .kept + length (squeezed (i .kept) b)) × (whole + runAfter (i .kept) b ≡ end) × (piece₁ ≡ sets piece (i .kept) (squeezed (i .kept) b)) × (end ≤ i .kept + length b) × (end ≤ whole + 260)
-    → ((ls : List Bytes) → Held A L ls (i .counts) ks cs → Held A L (ls ++ lines (take whole piece₁)) (j .counts) ks′ cs′)
-    → (j .kept ≡ end - whole) × (piece₂ ≡ sets piece₁ 0 (take (end - whole) (drop whole piece₁)))
-    → Fed A L (x ++ b) j piece₂ ks′ cs′
-fed-more A L x i j b piece piece₁ piece₂ ks ks′ cs cs′ whole end f n t a k =
-    let room = f .room in
-    let few = f .carried .few in
-    let h : end ≤ length piece = let z = t .3 in omega arith in
-    let s : length piece₂ ≡ length piece = ap length (k .1) ∙ length-sets piece₁ 0 (take (end - whole) (drop whole piece₁)) ∙ ap length (t .2) ∙ length-sets piece (i .kept) (squeezed (i .kept) b) in
-    record {
-      blocks = f .blocks ++ (b ∷ []);
-      input = together-more (f .blocks) b ∙ ap (λ (y : Bytes). y ++ b) (f .input);
-      held = subst (λ (ls : List Bytes). Held A L ls (j .counts) ks′ cs′) (sym (carried-handed (f .blocks) piece b (i .kept) (f .carried) piece₁ whole end (t .0) (t .1) (t .2) h)) (a (allLines (handedOver [] (f .blocks))) (f .held));
-      carried = carried-more (f .blocks) piece b (i .kept) (f .carried) piece₁ whole end (t .0) (t .1) (t .2) h piece₂ (j .kept) (t .4) (k .0) (k .1);
-      room = s ∙ room;
-    }
+pub held-piece : (A L : Bytes) (xs ys : List Bytes) (x : Bytes) (c : Counts) (ks : Bytes) (cs : List ℕ) → ys ≡ xs ++ (x ∷ []) → Held A L (allLines xs ++ lines x) c ks cs → Held A L (allLines ys) c ks cs
+held-piece A L xs ys x c ks cs e h = subst (λ (ls : List Bytes). Held A L ls c ks cs) (sym (ap allLines e ∙ all-more xs x)) h
 
--- A block in parts: what was taken so far, one part more, and all of it.
-module _ (A L x : Bytes) (i : Input) (b piece ks : Bytes) (cs : List ℕ) where
-  pub part-start : Fed A L x i piece ks cs → Fed A L (x ++ take 0 b) i piece ks cs
-  part-start f = subst (λ (y : Bytes). Fed A L y i piece ks cs) (sym (append-nil x)) f
-
-  pub part-more : (at end : ℕ) → at < end → Fed A L ((x ++ take at b) ++ take (end - at) (drop at b)) i piece ks cs → Fed A L (x ++ take end b) i piece ks cs
-  part-more at end h f =
-      let n : at + (end - at) ≡ end = omega arith in
-      subst (λ (y : Bytes). Fed A L y i piece ks cs) (append-assoc x (take at b) (take (end - at) (drop at b)) ∙ ap (λ (y : Bytes). x ++ y) (sym (take-add at (end - at) b) ∙ ap (λ (m : ℕ). take m b) n)) f
-
-  pub part-all : (at : ℕ) → length b ≤ at → Fed A L (x ++ take at b) i piece ks cs → Fed A L (x ++ b) i piece ks cs
-  part-all at h f = subst (λ (y : Bytes). Fed A L (x ++ y) i piece ks cs) (take-all at b h) f
-
--- The end of the input.
-pub fed-end : (A L x : Bytes) (i : Input) (piece ks ks′ : Bytes) (cs cs′ : List ℕ) (r : Counts) → Fed A L x i piece ks cs
-    → ((ls : List Bytes) → Held A L ls (i .counts) ks cs → Held A L (ls ++ lines (take (i .kept) piece)) r ks′ cs′) → Held A L (lines x) r ks′ cs′
-unfolding handed
-fed-end A L x i piece ks ks′ cs cs′ r f a =
-    let bs = f .blocks in
-    let e : allLines (handedOver [] bs) ++ lines (take (i .kept) piece) ≡ map (take 260) (lines x) =
-    ap (λ (y : Bytes). allLines (handedOver [] bs) ++ lines y) (f .carried .line) ∙ sym (all-more (handedOver [] bs) (unfinished [] bs)) ∙ all-lines bs ∙ ap (λ (y : Bytes). map (take 260) (lines y)) (f .input)
-    in
-    held-cut A L (lines x) r ks′ cs′ (subst (λ (ls : List Bytes). Held A L ls r ks′ cs′) e (a (allLines (handedOver [] bs)) (f .held)))
+-- All that is handed over of an input in blocks, wherever they end: the bill is that of the input's lines.
+pub held-input : (A L : Bytes) (bs : List Bytes) (c : Counts) (ks : Bytes) (cs : List ℕ) → Held A L (allLines (handed [] bs)) c ks cs → Held A L (lines (together bs)) c ks cs
+held-input A L bs c ks cs h = held-cut A L (lines (together bs)) c ks cs (subst (λ (ls : List Bytes). Held A L ls c ks cs) (all-lines bs) h)

@@ -181,9 +181,9 @@ module _ (T : Tables) (ls : List Bytes) (c : Counts) (ks : Bytes) (cs : List ℕ
             rw (lt-ltb 512 (length (keysOf (usages T (take 1000000 (ns ++ ms))))) (omega (arith, n, m, q, k)))
 
 -- the counts stay bounded
-pub bounded-only : (r : Counts) (n t p : ℕ) → r ≡ only n t p → Bounded r
+pub bounded-only : (r : Counts) (n p t : ℕ) → r ≡ only n p t → Bounded r
 unfolding only
-bounded-only r n t p e = subst Bounded (sym e) (record { keys = omega arith; lines = omega arith; refused = omega arith })
+bounded-only r n p t e = subst Bounded (sym e) (record { keys = omega arith; lines = omega arith; refused = omega arith })
 
 pub bounded-more : (c : Counts) (k r : ℕ) → Bounded c → c .lines < 1000000 → k ≤ 512 → r ≤ c .refused + 1 → Bounded (oneMore c k r)
 unfolding oneMore

@@ -1,6 +1,6 @@
 -- The key in an output is the key of the identifier. Assumes nothing.
 use mathlib.Core.Path.{_≡_, refl, sym, ap, _∙_, subst}
-use mathlib.Core.Bool.{true, false}
+use mathlib.Core.Bool.{true}
 use mathlib.Core.List.{[], _∷_, _++_, append-assoc}
 use mathlib.Core.Option.{none, some}
 use Prim.Native.Nat.{ℕ, suc, _+_, _-_, _≤_, _<_}
@@ -9,15 +9,13 @@ use lib.Dec.{leb}
 use lib.ListN.{length, take, drop, length-append}
 use lib.Seq.{take-append-seam}
 use borrow.Author.Tests.{le-leb, leb-true}
-use types.Run.{OneOf}
-use denote.Enum.Declared.{tagOf}
 use Rattle.standard.specs.Delivery.{Bytes, Made, result, refusal, form, Given, given}
 use Rattle.standard.specs.Grammar.{isLanguage, languageSize, sizeOf}
 use Rattle.standard.specs.Tag.{Tag}
 use Rattle.standard.specs.Calls.{minimise}
-use Rattle.standard.specs.Identifier.{Three, Identifier, Tables, Answer, done, refused, canonical, canonicalForm, minimised, minimalThree, withThree, size}
+use Rattle.standard.specs.Identifier.{Three, Identifier, Tables, Answer, done, refused, canonical, canonicalForm, minimised, minimalThree, withThree, printedLength}
 use Rattle.standard.specs.Reading.{Read, good, bad, read, print}
-use Rattle.standard.specs.Table.{tablesOf, check}
+use Rattle.standard.specs.Table.{tablesOf, check, toMaximise}
 use Rattle.standard.specs.Make.{operate, made, makeOf, make, whole}
 use Rattle.standard.proofs.Numbers.{Proper, refusal-not}
 use Rattle.standard.proofs.Operations.{bounded-done, maximised-form, maximised-maximal, minimised-done, shrunk, shrunk-canonical}
@@ -25,10 +23,11 @@ use Rattle.standard.proofs.Round.{length-print}
 use Rattle.standard.proofs.Table.{Passed, passed, good-tables}
 use Rattle.standard.proofs.Whole.{narrow-likely}
 use Rattle.table.specs.Hints.{Indexed}
-use Rattle.canonical.proofs.form.Canon.{the-type}
 use Rattle.canonical.specs.declared.form.Canon.{Canon}
+use Rattle.canonical.specs.declared.form.Canon.the-variants.{Refused}
+use Rattle.canonical.specs.declared.form.NoForm.{NoForm}
 use Rattle.canonical.specs.declared.form.Form.{Form}
-use Rattle.canonical.specs.Form.{outcomeOf, outcome}
+use Rattle.canonical.specs.Form.{noFormIs, outcomeOf, outcome}
 use Rattle.likely.specs.declared.forms.Outcome.{Outcome}
 use Rattle.likely.specs.declared.forms.Outcome.the-variants.{Done, NoRow, Long, Short}
 use Rattle.likely.specs.Forms.{givenBy, bytesOf, madeParts, ReadyFor}
@@ -39,7 +38,7 @@ use Rattle.operations.specs.Completed.{givenAnswered}
 use Rattle.operations.proofs.CompleteChecked.{minimised-proper}
 use Rattle.likely.proofs.Laws.{print-parts}
 use Rattle.operations.proofs.CompleteMakes.{restOf, print-rest, shaped-short}
-use Rattle.operations.proofs.Canonicalised.{Canonicalised, refusal-form}
+use Rattle.operations.proofs.Canonicalised.{Canonicalised, refused-by}
 use Rattle.operations.proofs.Wholes.{printable-among}
 use Rattle.operations.proofs.CompleteForms.{refused-made, made-answer, canonicalises, rest-length}
 use Rattle.bill_rules.specs.Bill.{keyOfAnswer, keyOfRead, keyOf}
@@ -58,10 +57,11 @@ key-refused T x n p e = go (read x) e
     go (bad k q) w = refl
     go (good i) w = by (minimised T i) w
 
-pub refused-key : (A L x buf : Bytes) (c : Canon) → outcomeOf c buf ≡ outcome A x → OneOf (1 ∷ 2 ∷ 3 ∷ 4 ∷ 5 ∷ 6 ∷ 7 ∷ 8 ∷ []) (tagOf the-type c) → keyOf (tablesOf A L []) x ≡ none
-refused-key A L x buf c e k =
-    let r = refusal-form c buf k in
-    key-refused (tablesOf A L []) x (r .0) (r .1) (refused-made A L x true (r .0) (r .1) (sym e ∙ r .3))
+pub refused-key : (A L x buf : Bytes) (c : Canon) (r : NoForm) → c ≡ Refused r → outcomeOf c buf ≡ outcome A x → keyOf (tablesOf A L []) x ≡ none
+refused-key A L x buf c r k e =
+    let n = noFormIs r .number in
+    let p = noFormIs r .place in
+    key-refused (tablesOf A L []) x n p (refused-made A L x true n p (refused-by A x buf k e))
 
 -- a key at the front
 key-front : (P R Z : Bytes) → 0 < length P → keyIs (length P) ((P ++ R) ++ Z) ≡ some P
@@ -114,7 +114,7 @@ unfolding given
 given-form y out h = rw (le-leb (length y) (length out) h)
 
 -- what is known of the minimised form
-module _ (A L : Bytes) (pass : check true false A L [] ≡ none) (hints : Bytes) (indexed : Indexed L hints) (x : Bytes) (f : Form) (buf : Bytes) (w : Canonicalised A x f buf) where
+module _ (A L : Bytes) (pass : check toMaximise A L [] ≡ none) (hints : Bytes) (indexed : Indexed L hints) (x : Bytes) (f : Form) (buf : Bytes) (w : Canonicalised A x f buf) where
   abbrev T : Tables
   T = tablesOf A L []
 
@@ -142,12 +142,12 @@ module _ (A L : Bytes) (pass : check true false A L [] ≡ none) (hints : Bytes)
       let s = subst (λ (i : Identifier). canonical T i ≡ done i) (d .2) (shrunk-canonical T g (d .0) (maximised-maximal T g (w .input) (d .0) (d .1))) in
       let b = bounded-done (canonicalForm T m) m s in
       let n = length-print m p in
-      let z : leb (size m) 255 ≡ true = subst (λ (i : Identifier). leb (size i) 255 ≡ true) (b .0) (b .1) in
+      let z : leb (printedLength m) 255 ≡ true = subst (λ (i : Identifier). leb (printedLength i) 255 ≡ true) (b .0) (b .1) in
       let h = shaped-short (m .core) (p .core) in
       let j = joined-length (partsOf (m .core)) in
       record {
         prints = print-rest m ∙ ap (λ (r : Bytes). joinedParts (partsOf (m .core)) ++ r) (rest-same (canonicalForm T (w .input)) (w .form) (d .0) m (q .0) (minimalThree T (d .0 .core)) k (q .2) (d .2));
-        short = omega (arith, n, leb-true (size m) 255 z);
+        short = omega (arith, n, leb-true (printedLength m) 255 z);
         most = omega arith;
         some-bytes = three-there (m .core) (p .core .language);
       }

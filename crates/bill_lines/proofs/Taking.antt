@@ -9,7 +9,7 @@ use Rattle.standard.specs.Identifier.{Tables}
 use Rattle.standard.specs.Delivery.{Bytes}
 use Rattle.table.specs.Lines.{lines}
 use Rattle.byte_string.specs.Strings.{endOf}
-use Rattle.subtag.proofs.Walk.{le-or-lt}
+use Rattle.standard.proofs.General.{le-or-lt}
 use Rattle.lines.specs.Pieces.{Next}
 use Rattle.lines.proofs.Pieces.{line}
 use Rattle.bill_rules.specs.Bill.{billOf}

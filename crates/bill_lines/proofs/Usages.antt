@@ -11,7 +11,7 @@ use lib.Seq.{take-all}
 use borrow.Author.Tests.{leb-true}
 use Rattle.standard.specs.Identifier.{Tables}
 use Rattle.standard.specs.Delivery.{Bytes}
-use Rattle.standard.proofs.Bytes.{and-true}
+use Rattle.standard.proofs.General.{and-true}
 use Rattle.bill_rules.specs.Bill.{leading, memberOf, beforeTab, afterTab, keyOf, usageBy, usageAt, usage}
 use Rattle.bill_lines.specs.declared.shape.Shape.{Shape}
 use Rattle.bill_lines.specs.Shapes.{orZero, memberIf, Shaped}

@@ -2,5 +2,4 @@ pub mod Shapes
 pub mod Keys
 pub mod State
 pub mod Held
-pub mod Fed
 pub mod Text

@@ -27,18 +27,18 @@ pub record Bounded (c : Counts) : Type 0 where
   pub lines : c .lines ≤ 1000000
   pub refused : c .refused ≤ c .lines
 
--- the counts of a refusal, all 0 but its number, table and place; with number 0 those of no lines; and after one line more
+-- the counts of a refusal, all 0 but its number, place and table; with number 0 those of no lines; and after one line more
 unfoldable pub only : ℕ → ℕ → ℕ → Counts
-only n t p = record { number = n; table = t; place = p; keys = 0; lines = 0; refused = 0 }
+only n p t = record { number = n; place = p; table = t; keys = 0; lines = 0; refused = 0 }
 
 unfoldable pub oneMore : Counts → ℕ → ℕ → Counts
-oneMore c keys refused = record { number = c .number; table = c .table; place = c .place; keys = keys; lines = c .lines + 1; refused = refused }
+oneMore c keys refused = record { number = c .number; place = c .place; table = c .table; keys = keys; lines = c .lines + 1; refused = refused }
 
 -- not refused so far: the entries of all lines
 pub record Going (T : Tables) (ls : List Bytes) (c : Counts) (ks : Bytes) (cs : List ℕ) : Type 0 where
   pub number : c .number ≡ 0
-  pub table : c .table ≡ 0
   pub place : c .place ≡ 0
+  pub table : c .table ≡ 0
   pub lines : c .lines ≡ length ls
   pub most-lines : c .lines ≤ 1000000
   pub refused : c .refused ≡ refusals T ls

@@ -1,5 +1,5 @@
 -- The text of a bill. Assumes nothing.
-use mathlib.Core.Bool.{true, false, cond, _&&_}
+use mathlib.Core.Bool.{cond, _&&_}
 use mathlib.Core.List.{List, [], _∷_, _++_}
 use mathlib.Core.Option.{Option, none, some}
 use Prim.Native.Nat.{ℕ}
@@ -7,7 +7,7 @@ use lib.Count.{ones}
 use lib.Dec.{eqb, leb, ltb}
 use lib.ListN.{length}
 use Rattle.standard.specs.Delivery.{Bytes}
-use Rattle.standard.specs.Table.{TableFault, tablesOf, check}
+use Rattle.standard.specs.Table.{TableFault, tablesOf, check, toMaximise}
 use Rattle.tsv.specs.Fields.{decimal, field, tableText}
 use Rattle.bill_rules.specs.Bill.{Row, Bill, bill, refusedWith, billOf}
 use Rattle.bill_ledger.specs.Entries.{Entry}
@@ -38,10 +38,10 @@ billText (refusedWith n) = field (decimal n) 10
 -- 02, T-01: one with bad tables only the `table` line of `keys`
 unfoldable pub afterTables : Option TableFault → Bytes → Bytes
 afterTables none x = x
-afterTables (some f) x = tableText (f .fault .number) (f .table) (f .fault .place)
+afterTables (some f) x = tableText (f .fault .number) (f .fault .place) (f .table)
 
 unfoldable pub monthText : Bytes → Bytes → List Bytes → Bytes
-monthText A L ls = afterTables (check true false A L []) (billText (billOf (tablesOf A L []) ls))
+monthText A L ls = afterTables (check toMaximise A L []) (billText (billOf (tablesOf A L []) ls))
 
 -- the rows of entries, as the code has them
 unfoldable pub entryText : Entry → Bytes
@@ -55,7 +55,7 @@ entriesText (e ∷ es) = entryText e ++ entriesText es
 unfoldable pub countsText : Counts → Bytes → List ℕ → Bytes
 countsText c ks cs =
     cond (eqb (c .number) 0) (header ++ (entriesText (entriesFrom ks cs 0 (c .keys)) ++ lastText (c .refused)))
-    (cond (ltb (c .number) 15) (tableText (c .number) (c .table) (c .place)) (field (decimal (c .number)) 10))
+    (cond (ltb (c .number) 15) (tableText (c .number) (c .place) (c .table)) (field (decimal (c .number)) 10))
 
 -- what is written into an output of so many bytes: nothing where it is too short, or where counts and arrays are no bill's
 unfoldable pub writtenText : Counts → Bytes → List ℕ → ℕ → Bytes

@@ -37,7 +37,7 @@ fn less(n: usize, k: usize) -> usize
 
 // Writes the minimised form at the front of out, and answers the length of its key, which stands first; 0 where the
 // identifier is refused. Each table's hints stand behind it.
-pub fn key_of(
+pub(crate) fn key_of(
     id: &[u8],
     aliases: &[u8],
     alias_hints: &[u16],
@@ -45,7 +45,8 @@ pub fn key_of(
     likely_hints: &[u16],
     out: &mut [u8],
 ) -> usize
-    requires { ⌜ TestedBoth (now aliases) (now likely) × Hinted (now aliases) (now «alias_hints») × Hinted (now likely) (now «likely_hints») × (255 ≤ length (now out)) ⌝ }
+    requires { let aliases = now aliases in let likely = now likely in
+        ⌜ TestedBoth aliases likely × Hinted aliases (now «alias_hints») × Hinted likely (now «likely_hints») × (255 ≤ length (now out)) ⌝ }
     ensures { λ r. ⌜ (keyIs r (now (out .exit)) ≡ keyOf (tablesOf (now (aliases .entry)) (now (likely .entry)) []) (now (id .entry))) × (r ≤ 26) ⌝ }
 {
     let mut buf = buffer();

@@ -1,5 +1,4 @@
-// A month's usage lines, taken into a bill a piece at a time.
-pub mod input;
+// Public, over lines. A month's usage lines, taken into a bill a piece at a time.
 mod key;
 mod line;
 mod piece;
@@ -23,38 +22,38 @@ ghost use Rattle.bill_ledger.specs.Up.{Sized};
 ghost use Rattle.bill_lines.specs.State.{Bounded, only as onlyOf, Going, Good};
 ghost use Rattle.bill_lines.specs.Held.{Held, Usable, Stays, judgedBy};
 
-// A bill's refusal (11 to 14 for the tables, 17 or 18), with the table and the place of a table's; the number of its keys,
+// A bill's refusal (11 to 14 for the tables, 17 or 18), with the place and the table of a table's; the number of its keys,
 // of the lines read and of those refused.
 pub struct Counts {
     pub number: u8,
-    pub table: u8,
     pub place: usize,
+    pub table: u8,
     pub keys: usize,
     pub lines: usize,
     pub refused: usize,
 }
 
 // The counts of a refusal, or with number 0 of no lines.
-fn only(number: u8, table: u8, place: usize) -> Counts
-    ensures { λ r. ⌜ r ≡ onlyOf number table place ⌝ }
+fn only(number: u8, place: usize, table: u8) -> Counts
+    ensures { λ r. ⌜ r ≡ onlyOf number place table ⌝ }
 {
     Counts {
         number,
-        table,
         place,
+        table,
         keys: 0,
         lines: 0,
         refused: 0,
     }
 }
 
-// The counts after the check of the tables: a bad one's number, table and place.
+// The counts after the check of the tables: a bad one's number, place and table.
 fn judged(v: Verdict) -> Counts
     ensures { λ r. ⌜ r ≡ judgedBy v ⌝ }
 {
     match v {
         Verdict::Good => only(0, 0, 0),
-        Verdict::Bad(number, table, place) => only(number, table, place),
+        Verdict::Bad(number, place, table) => only(number, place, table),
     }
 }
 
@@ -120,9 +119,10 @@ pub fn add(
     keys: &mut [u8],
     counts: &mut [u64],
 ) -> Counts
-    ensures { λ r. ⌜ ((ls : List Bytes) → Held (now (aliases .entry)) (now (likely .entry)) ls c (now (keys .entry)) (now (counts .entry))
-        → Held (now (aliases .entry)) (now (likely .entry)) (ls ++ lines (now (piece .entry))) r (now (keys .exit)) (now (counts .exit)))
-        × ((Usable c (now (keys .entry)) (now (counts .entry)) → ⊥) → Stays c r (now (keys .entry)) (now (keys .exit)) (now (counts .entry)) (now (counts .exit))) ⌝ }
+    ensures { λ r. let keys′ = now (keys .exit) in let counts′ = now (counts .exit) in let aliases = now (aliases .entry) in
+        let likely = now (likely .entry) in let keys = now (keys .entry) in let counts = now (counts .entry) in let piece = now (piece .entry) in
+        ⌜ ((ls : List Bytes) → Held aliases likely ls c keys counts → Held aliases likely (ls ++ lines piece) r keys′ counts′)
+        × ((Usable c keys counts → ⊥) → Stays c r keys keys′ counts counts′) ⌝ }
 {
     if !is_usable(c, keys, counts) {
         return c;

@@ -31,8 +31,11 @@ fn usage_of(
     likely_hints: &[u16],
     out: &mut [u8],
 ) -> Used
-    requires { ⌜ TestedBoth (now aliases) (now likely) × Hinted (now aliases) (now «alias_hints») × Hinted (now likely) (now «likely_hints») × (255 ≤ length (now out)) ⌝ }
-    ensures { λ r. ⌜ (usedIs r (now (out .exit)) ≡ usage (tablesOf (now (aliases .entry)) (now (likely .entry)) []) (now (line .entry))) × (r .member ≤ 64) × (r .len ≤ 26) ⌝ }
+    requires { let aliases = now aliases in let likely = now likely in
+        ⌜ TestedBoth aliases likely × Hinted aliases (now «alias_hints») × Hinted likely (now «likely_hints») × (255 ≤ length (now out)) ⌝ }
+    ensures { λ r. let out′ = now (out .exit) in let aliases = now (aliases .entry) in let likely = now (likely .entry) in
+        let line = now (line .entry) in
+        ⌜ (usedIs r out′ ≡ usage (tablesOf aliases likely []) line) × (r .member ≤ 64) × (r .len ≤ 26) ⌝ }
 {
     let s = shape_of(line);
     let member = s.member;
@@ -61,8 +64,8 @@ fn counted(c: Counts, keys: usize, refused: usize) -> Counts
 {
     Counts {
         number: c.number,
-        table: c.table,
         place: c.place,
+        table: c.table,
         keys,
         lines: c.lines + 1,
         refused,
@@ -79,15 +82,16 @@ fn add_used(
     out: &[u8],
 ) -> usize
     requires { ⌜ (n ≤ 512) × Sized (now keys) (now counts) × (1 ≤ member) × (member ≤ 64) × (len ≤ 26) × (255 ≤ length (now out)) ⌝ }
-    ensures { λ r. ⌜ Sized (now (keys .exit)) (now (counts .exit))
-        × (Up (entriesFrom (now (keys .entry)) (now (counts .entry)) 0 n) → Few (entriesFrom (now (keys .entry)) (now (counts .entry)) 0 n)
-        → Added (record { member = member; key = take len (now (out .entry)) }) (entriesFrom (now (keys .entry)) (now (counts .entry)) 0 n) (now (keys .exit)) (now (counts .exit)) r) ⌝ }
+    ensures { λ r. let keys′ = now (keys .exit) in let counts′ = now (counts .exit) in let keys = now (keys .entry) in
+        let counts = now (counts .entry) in let out = now (out .entry) in
+        ⌜ Sized keys′ counts′
+        × (Up (entriesFrom keys counts 0 n) → Few (entriesFrom keys counts 0 n) → Added (record { member = member; key = take len out }) (entriesFrom keys counts 0 n) keys′ counts′ r) ⌝ }
 {
     bill_ledger::add(keys, counts, n, member, &out[..len])
 }
 
 // Takes one line into a bill that is not refused.
-pub fn take_line(
+pub(crate) fn take_line(
     c: Counts,
     line: &[u8],
     aliases: &[u8],
@@ -98,7 +102,9 @@ pub fn take_line(
     counts: &mut [u64],
     out: &mut [u8],
 ) -> Counts
-    requires { ⌜ TestedBoth (now aliases) (now likely) × Hinted (now aliases) (now «alias_hints») × Hinted (now likely) (now «likely_hints») × (255 ≤ length (now out)) × Bounded c × Sized (now keys) (now counts) ⌝ }
+    requires { let aliases = now aliases in let likely = now likely in
+        ⌜ TestedBoth aliases likely × Hinted aliases (now «alias_hints») × Hinted likely (now «likely_hints») × (255 ≤ length (now out)) × Bounded c
+        × Sized (now keys) (now counts) ⌝ }
     ensures { λ r. ⌜ Bounded r × Sized (now (keys .exit)) (now (counts .exit))
         × ((ls : List Bytes) → Going (tablesOf (now (aliases .entry)) (now (likely .entry)) []) ls c (now (keys .entry)) (now (counts .entry))
         → Good (tablesOf (now (aliases .entry)) (now (likely .entry)) []) (ls ++ (now (line .entry) ∷ [])) r (now (keys .exit)) (now (counts .exit))) ⌝ }

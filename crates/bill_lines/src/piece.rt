@@ -1,8 +1,8 @@
 // The lines of a piece of input, taken into a bill.
 use crate::Counts;
 use crate::line::take_line;
-use lines::next_line;
 use byte_string::end_of;
+use lines::next_line;
 ghost use mathlib.Core.List.{List, [], _++_};
 ghost use Prim.Native.Nat.{_≤_};
 ghost use lib.ListN.{length};
@@ -15,7 +15,7 @@ ghost use Rattle.bill_ledger.specs.Up.{Sized};
 ghost use Rattle.bill_lines.specs.State.{Bounded, Going, Good};
 
 // Takes all lines of a piece into a bill that is not refused. The key of each is written into out.
-pub fn take_lines(
+pub(crate) fn take_lines(
     from: Counts,
     piece: &[u8],
     aliases: &[u8],
@@ -26,7 +26,9 @@ pub fn take_lines(
     counts: &mut [u64],
     out: &mut [u8],
 ) -> Counts
-    requires { ⌜ TestedBoth (now aliases) (now likely) × Hinted (now aliases) (now «alias_hints») × Hinted (now likely) (now «likely_hints») × (255 ≤ length (now out)) × Bounded from × Sized (now keys) (now counts) ⌝ }
+    requires { let aliases = now aliases in let likely = now likely in
+        ⌜ TestedBoth aliases likely × Hinted aliases (now «alias_hints») × Hinted likely (now «likely_hints») × (255 ≤ length (now out))
+        × Bounded from × Sized (now keys) (now counts) ⌝ }
     ensures { λ r. ⌜ Bounded r × Sized (now (keys .exit)) (now (counts .exit))
         × ((ls : List Bytes) → Going (tablesOf (now (aliases .entry)) (now (likely .entry)) []) ls from (now (keys .entry)) (now (counts .entry))
         → Good (tablesOf (now (aliases .entry)) (now (likely .entry)) []) (ls ++ lines (now (piece .entry))) r (now (keys .exit)) (now (counts .exit))) ⌝ }

@@ -45,7 +45,7 @@ fn two_digits(d: u8, e: u8) -> u8
     n
 }
 
-pub fn shape_of(line: &[u8]) -> Shape
+pub(crate) fn shape_of(line: &[u8]) -> Shape
     ensures { λ r. ⌜ Shaped (now (line .entry)) r ⌝ }
 {
     let tab = byte_string::end_of(line, 9, 0);

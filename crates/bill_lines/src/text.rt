@@ -10,6 +10,7 @@ ghost use Prim.Native.Nat.{_+_, _≤_, _<_};
 ghost use lib.Count.{ones};
 ghost use lib.ListN.{length};
 ghost use lib.Seq.{sets};
+ghost use Rattle.byte_string.specs.Strings.{WritesWithin};
 ghost use Rattle.tsv.specs.Fields.{field};
 ghost use Rattle.bill_ledger.specs.Places.{textAt, entryAt, entriesFrom};
 ghost use Rattle.bill_ledger.specs.Up.{Sized};
@@ -25,7 +26,7 @@ fn members_of(marks: u64) -> usize
 // Writes the i-th key and a tab at the place at, and gives the next place.
 fn put_key(keys: &[u8], i: usize, out: &mut [u8], at: usize) -> usize
     requires { ⌜ (i < 512) × (length (now keys) ≡ 16384) × (at + 32 ≤ length (now out)) ⌝ }
-    ensures { λ r. ⌜ (r ≡ at + length (field (textAt (now (keys .entry)) i) 9)) × (now (out .exit) ≡ sets (now (out .entry)) at (field (textAt (now (keys .entry)) i) 9)) × (r ≤ at + 32) ⌝ }
+    ensures { λ r. ⌜ WritesWithin (at + 32) (now (out .entry)) at (field (textAt (now (keys .entry)) i) 9) r (now (out .exit)) ⌝ }
 {
     let a = 32 * i + 1;
     let e = a + bill_ledger::key_len(keys, i);
@@ -35,7 +36,8 @@ fn put_key(keys: &[u8], i: usize, out: &mut [u8], at: usize) -> usize
 // Writes the row of the i-th entry at the place at, and gives the next place.
 fn put_row(keys: &[u8], counts: &[u64], i: usize, out: &mut [u8], at: usize) -> usize
     requires { ⌜ (i < 512) × Sized (now keys) (now counts) × (at + 80 ≤ length (now out)) ⌝ }
-    ensures { λ r. ⌜ (r ≡ at + length (entryText (entryAt (now (keys .entry)) (now (counts .entry)) i))) × (now (out .exit) ≡ sets (now (out .entry)) at (entryText (entryAt (now (keys .entry)) (now (counts .entry)) i))) × (r ≤ at + 80) ⌝ }
+    ensures { λ r. let out′ = now (out .exit) in let out = now (out .entry) in let keys = now (keys .entry) in let counts = now (counts .entry) in
+        ⌜ WritesWithin (at + 80) out at (entryText (entryAt keys counts i)) r out′ ⌝ }
 {
     let members = members_of(counts[2 * i]);
     let deliveries = counts[2 * i + 1] as usize;
@@ -47,7 +49,8 @@ fn put_row(keys: &[u8], counts: &[u64], i: usize, out: &mut [u8], at: usize) -> 
 // The rows of the first n entries.
 fn put_rows(keys: &[u8], counts: &[u64], n: usize, out: &mut [u8], at: usize) -> usize
     requires { ⌜ (n ≤ 512) × Sized (now keys) (now counts) × (at + 40960 ≤ length (now out)) ⌝ }
-    ensures { λ r. ⌜ (r ≡ at + length (entriesText (entriesFrom (now (keys .entry)) (now (counts .entry)) 0 n))) × (now (out .exit) ≡ sets (now (out .entry)) at (entriesText (entriesFrom (now (keys .entry)) (now (counts .entry)) 0 n))) × (r ≤ at + 40960) ⌝ }
+    ensures { λ r. let out′ = now (out .exit) in let out = now (out .entry) in let keys = now (keys .entry) in let counts = now (counts .entry) in
+        ⌜ WritesWithin (at + 40960) out at (entriesText (entriesFrom keys counts 0 n)) r out′ ⌝ }
 {
     let mut i = 0;
     let mut end = at;
@@ -61,7 +64,7 @@ fn put_rows(keys: &[u8], counts: &[u64], n: usize, out: &mut [u8], at: usize) ->
 // The row of the refused lines.
 fn put_last(refused: usize, out: &mut [u8], at: usize) -> usize
     requires { ⌜ at + 25 ≤ length (now out) ⌝ }
-    ensures { λ r. ⌜ (r ≡ at + length (lastText refused)) × (now (out .exit) ≡ sets (now (out .entry)) at (lastText refused)) × (r ≤ at + 25) ⌝ }
+    ensures { λ r. ⌜ WritesWithin (at + 25) (now (out .entry)) at (lastText refused) r (now (out .exit)) ⌝ }
 {
     let p = put(b"-\t0", b'\t', out, at);
     put_number(refused, b'\n', out, p)
@@ -78,9 +81,9 @@ fn put_header(out: &mut [u8]) -> usize
 // A bill that was made.
 fn put_bill(n: usize, refused: usize, keys: &[u8], counts: &[u64], out: &mut [u8]) -> usize
     requires { ⌜ (n ≤ 512) × Sized (now keys) (now counts) × (65536 ≤ length (now out)) ⌝ }
-    ensures { λ r. ⌜ (r ≡ length (header ++ (entriesText (entriesFrom (now (keys .entry)) (now (counts .entry)) 0 n) ++ lastText refused)))
-        × (now (out .exit) ≡ sets (now (out .entry)) 0 (header ++ (entriesText (entriesFrom (now (keys .entry)) (now (counts .entry)) 0 n) ++ lastText refused)))
-        × (r ≤ 65536) ⌝ }
+    ensures { λ r. let out′ = now (out .exit) in let keys = now (keys .entry) in let counts = now (counts .entry) in let out = now (out .entry) in
+        ⌜ (r ≡ length (header ++ (entriesText (entriesFrom keys counts 0 n) ++ lastText refused)))
+        × (out′ ≡ sets out 0 (header ++ (entriesText (entriesFrom keys counts 0 n) ++ lastText refused))) × (r ≤ 65536) ⌝ }
 {
     let p = put_header(out);
     let q = put_rows(keys, counts, n, out, p);
@@ -90,13 +93,14 @@ fn put_bill(n: usize, refused: usize, keys: &[u8], counts: &[u64], out: &mut [u8
 // A bill, the line of a bad table, or the number of a refusal.
 fn put_text(c: Counts, keys: &[u8], counts: &[u64], out: &mut [u8]) -> usize
     requires { ⌜ (c .keys ≤ 512) × Sized (now keys) (now counts) × (65536 ≤ length (now out)) ⌝ }
-    ensures { λ r. ⌜ (r ≡ length (countsText c (now (keys .entry)) (now (counts .entry)))) × (now (out .exit) ≡ sets (now (out .entry)) 0 (countsText c (now (keys .entry)) (now (counts .entry)))) × (r ≤ 65536) ⌝ }
+    ensures { λ r. let out′ = now (out .exit) in let keys = now (keys .entry) in let counts = now (counts .entry) in let out = now (out .entry) in
+        ⌜ (r ≡ length (countsText c keys counts)) × (out′ ≡ sets out 0 (countsText c keys counts)) × (r ≤ 65536) ⌝ }
 {
     if c.number == 0 {
         return put_bill(c.keys, c.refused, keys, counts, out);
     }
     if c.number < 15 {
-        return put_table(c.number as usize, c.table as usize, c.place, out);
+        return put_table(c.number as usize, c.place, c.table as usize, out);
     }
     put_number(c.number as usize, b'\n', out, 0)
 }

@@ -9,6 +9,7 @@ use Rattle.standard.specs.Tag.{Tag, order, same, insertBy, sortBy, itself}
 use Rattle.standard.proofs.Tags.{order-flip, order-eq, same-eq, same-refl, flip, Ascending, sort-ascending}
 use Rattle.standard.proofs.Faults.{order-trans}
 use Rattle.bill_rules.specs.Bill.{more}
+use Rattle.standard.proofs.General.{or-swap}
 
 -- whether x is one of the tags; and how often
 unfoldable pub elem : Tag → List Tag → Bool
@@ -110,12 +111,6 @@ insert-length x (y ∷ ys) h = go (order x y) refl (insert-length x ys (ascendin
 or-again : (a b : Bool) → (a || b) ≡ (a || (a || b))
 or-again true b = refl
 or-again false b = refl
-
-pub or-swap : (a b c : Bool) → (a || (b || c)) ≡ (b || (a || c))
-or-swap true true c = refl
-or-swap true false c = refl
-or-swap false true c = refl
-or-swap false false c = refl
 
 elem-insert : (x y : Tag) (zs : List Tag) → elem x (insertBy itself y zs) ≡ (same x y || elem x zs)
 unfolding insertBy elem

@@ -15,7 +15,7 @@ use Rattle.standard.specs.Delivery.{Bytes}
 use Rattle.standard.proofs.Tags.{order-flip, order-eq, flip}
 use Rattle.standard.proofs.Faults.{order-trans}
 use Rattle.bill_rules.specs.Order.{Reordered, ended, kept, swapped, again}
-use Rattle.bill_rules.proofs.Keys.{or-swap}
+use Rattle.standard.proofs.General.{or-swap}
 use Rattle.bill_rules.specs.Bill.{Usage, usage, accepted, usages, refusing, refusals, keysOf, more, deliveries, used, membersUpTo, members, Row, rowOf, bill, refusedWith, mostKeys, mostLines, billOf}
 
 pub reordered-refl : {A : Type 0} (xs : List A) → Reordered xs xs

@@ -7,10 +7,10 @@ use Prim.Native.Nat.{ℕ, suc, _+_}
 use native.Mathlib.Omega.{arith}
 use lib.Dec.{ltb}
 use lib.ListN.{length, take}
-use Rattle.standard.specs.Tag.{Tag, same}
+use Rattle.standard.specs.Tag.{Tag, same, All}
 use Rattle.standard.specs.Identifier.{Tables}
 use Rattle.standard.specs.Delivery.{Bytes}
-use Rattle.standard.proofs.Tags.{All, same-refl}
+use Rattle.standard.proofs.Tags.{same-refl}
 use Rattle.bill_rules.specs.Bill.{Usage, usage, accepted, usages, refusing, refusals, keysOf, more, deliveries, Row, rowOf, bill, refusedWith, mostKeys, mostLines, billOf, total}
 use Rattle.bill_rules.proofs.Keys.{elem, times, same-sym, times-sorted}
 

@@ -1,20 +1,20 @@
 -- A bill has as many keys as there are different maximised triples among its accepted lines. Assumes nothing.
 use mathlib.Core.Path.{_≡_, refl, sym, ap, _∙_, subst}
-use mathlib.Core.Bool.{Bool, true, false, not, _||_, _&&_}
+use mathlib.Core.Bool.{Bool, true, not, _||_, _&&_}
 use mathlib.Core.List.{List, [], _∷_, _++_, map, append-nil}
 use mathlib.Core.Option.{Option, none, some, Option·none-ne-some}
-use Prim.Native.Nat.{ℕ, suc}
+use Prim.Native.Nat.{ℕ}
 use lib.ListN.{length}
-use Rattle.standard.specs.Tag.{Tag, same}
+use Rattle.standard.specs.Tag.{Tag, same, All}
 use Rattle.standard.specs.Grammar.{flat}
-use Rattle.standard.specs.Identifier.{Three, three, Identifier, Tables, Answer, done, refused, canonicalForm, withThree, withoutUnknown, maximalThree, trial, minimalThree, maximised, minimised, sameThree, Good}
+use Rattle.standard.specs.Identifier.{Three, three, Identifier, Tables, Answer, done, refused, canonicalForm, withThree, withoutUnknown, maximalThree, trial, minimalThree, maximised, minimised, sameThree, Lawful}
 use Rattle.standard.specs.Reading.{Read, good, bad, read, split, print, tags, rest, joined, optional, identifierOf}
 use Rattle.standard.specs.Chain.{line}
 use Rattle.standard.specs.Make.{identifier}
 use Rattle.standard.specs.Delivery.{Bytes}
-use Rattle.standard.specs.Table.{printThree, tablesOf, check}
-use Rattle.standard.proofs.Tags.{All, Ascending, same-eq, same-refl}
-use Rattle.standard.proofs.Bytes.{and-true}
+use Rattle.standard.specs.Table.{printThree, tablesOf, check, toMaximise}
+use Rattle.standard.proofs.Tags.{Ascending, same-eq, same-refl}
+use Rattle.standard.proofs.General.{and-true, map-length as length-map, both-ways}
 use Rattle.standard.proofs.Faults.{Variants}
 use Rattle.standard.proofs.Core.{Full, shrink-maximal}
 use Rattle.standard.proofs.Operations.{maximised-form, maximised-maximal, minimised-done, shrunk}
@@ -61,13 +61,7 @@ three-refl : (t : Three) → sameThree t t ≡ true
 unfolding sameThree
 three-refl t = rw (same-refl (t .language), same-refl (t .script), same-refl (t .region))
 
-both-ways : (a b : Bool) → (a ≡ true → b ≡ true) → (b ≡ true → a ≡ true) → a ≡ b
-both-ways true true f h = refl
-both-ways true false f h = sym (f refl)
-both-ways false true f h = h refl
-both-ways false false f h = refl
-
-module _ (T : Tables) (g : Good T) (s : ShapedTables T) where
+module _ (T : Tables) (g : Lawful T) (s : ShapedTables T) where
   -- the key and the maximised triple of one identifier
   record Pair (k : Tag) (t : Three) : Type 0 where
     shaped : Shaped t
@@ -184,13 +178,9 @@ module _ (T : Tables) (g : Good T) (s : ShapedTables T) where
   unfolding keysOf
   keys-counted ls = sorted-length (map (λ (u : Usage). u .key) (usages T ls)) ∙ pairs-different (map (λ (u : Usage). u .key) (usages T ls)) (triples T ls) (lines-paired ls)
 
-length-map : {A B : Type 0} (f : A → B) (xs : List A) → length (map f xs) ≡ length xs
-length-map f [] = refl
-length-map f (x ∷ xs) = ap suc (length-map f xs)
-
 -- 02, T-01: the number of keys is the number of different maximised language-script-region triples among the accepted
 -- lines, over tables that pass the check.
-pub keys-are-triples : (A L : Bytes) (ls : List Bytes) (rs : List Row) (r : ℕ) → check true false A L [] ≡ none → billOf (tablesOf A L []) ls ≡ bill rs r → length rs ≡ differentThrees (triples (tablesOf A L []) ls)
+pub keys-are-triples : (A L : Bytes) (ls : List Bytes) (rs : List Row) (r : ℕ) → check toMaximise A L [] ≡ none → billOf (tablesOf A L []) ls ≡ bill rs r → length rs ≡ differentThrees (triples (tablesOf A L []) ls)
 keys-are-triples A L ls rs r e f =
     let T = tablesOf A L [] in
     let p = passed A L [] (narrow-likely A L ∙ e) in

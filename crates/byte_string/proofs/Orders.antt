@@ -5,47 +5,13 @@ use mathlib.Core.List.{List}
 use Prim.Native.Nat.{ℕ, suc, _+_, _≤_, _<_, compare, Ordering, Ordering·lt, Ordering·eq, Ordering·gt}
 use native.Mathlib.Numerals.{add-one}
 use native.Mathlib.Omega.{arith}
-use lib.Dec.{isLe, isEq}
+use lib.Dec.{isEq}
 use lib.ListN.{length, getD, drop, drop-of-length-le}
 use lib.Seq.{drop-cons}
 use Rattle.byte_string.specs.declared.Order.{Order}
 use Rattle.byte_string.specs.Strings.{orderOf}
-use borrow.Author.Tests.{leb-true, leb-false, eqb-true, eqb-false}
 use Rattle.standard.specs.Tag.{andThen, order, same}
-
--- what a comparison of numbers says, and the other way round
-pub compare-lt : (m n : ℕ) → compare m n ≡ Ordering·lt → m < n
-compare-lt m n e = let h = leb-true m n (ap isLe e) in let k = eqb-false m n (ap isEq e) in omega arith
-
-pub compare-gt : (m n : ℕ) → compare m n ≡ Ordering·gt → n < m
-compare-gt m n e = leb-false m n (ap isLe e)
-
-pub compare-same : (m n : ℕ) → compare m n ≡ Ordering·eq → m ≡ n
-compare-same m n e = eqb-true m n (ap isEq e)
-
-pub compare-less : (m n : ℕ) → m < n → compare m n ≡ Ordering·lt
-compare-less m n h = go (compare m n) refl
-  where
-    go : (o : Ordering) → compare m n ≡ o → o ≡ Ordering·lt
-    go Ordering·lt e = refl
-    go Ordering·eq e = absurd (omega (arith, compare-same m n e))
-    go Ordering·gt e = absurd (omega (arith, compare-gt m n e))
-
-pub compare-more : (m n : ℕ) → n < m → compare m n ≡ Ordering·gt
-compare-more m n h = go (compare m n) refl
-  where
-    go : (o : Ordering) → compare m n ≡ o → o ≡ Ordering·gt
-    go Ordering·gt e = refl
-    go Ordering·eq e = absurd (omega (arith, compare-same m n e))
-    go Ordering·lt e = absurd (omega (arith, compare-lt m n e))
-
-pub compare-equal : (m n : ℕ) → m ≡ n → compare m n ≡ Ordering·eq
-compare-equal m n h = go (compare m n) refl
-  where
-    go : (o : Ordering) → compare m n ≡ o → o ≡ Ordering·eq
-    go Ordering·eq e = refl
-    go Ordering·lt e = absurd (omega (arith, compare-lt m n e))
-    go Ordering·gt e = absurd (omega (arith, compare-gt m n e))
+use Rattle.standard.proofs.General.{compare-less, compare-more, compare-equal}
 
 -- the order of what is left of both from i on
 unfoldable pub orderFrom : List ℕ → List ℕ → ℕ → Ordering

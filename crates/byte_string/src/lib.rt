@@ -1,15 +1,14 @@
-// Inner: byte strings. Their order, the first place of a byte, and bytes written at a place.
+// Inner. Byte strings. Their order, the first place of a byte, and bytes written at a place.
 ghost use mathlib.Core.Path.{_≡_};
 ghost use Prim.Native.Nat.{_+_, _≤_, _<_};
 ghost use lib.ListN.{length};
-ghost use lib.Seq.{sets};
 ghost use Rattle.standard.specs.Tag.{order, same as sameTag};
-ghost use Rattle.byte_string.specs.Strings.{orderOf, endOf};
+ghost use Rattle.byte_string.specs.Strings.{orderOf, endOf, Writes};
 
 // Writes src at the place at, and gives the next place.
 pub fn put(src: &[u8], out: &mut [u8], at: usize) -> usize
     requires { ⌜ at + length (now src) ≤ length (now out) ⌝ }
-    ensures { λ r. ⌜ (r ≡ at + length (now (src .entry))) × (now (out .exit) ≡ sets (now (out .entry)) at (now (src .entry))) ⌝ }
+    ensures { λ r. ⌜ Writes (now (out .entry)) at (now (src .entry)) r (now (out .exit)) ⌝ }
 {
     let mut i = 0;
     while i < src.len() {

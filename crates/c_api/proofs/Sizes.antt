@@ -8,10 +8,10 @@ use native.Mathlib.Omega.{arith}
 use lib.Dec.{leb}
 use lib.ListN.{length, drop}
 use Rattle.standard.specs.Delivery.{Bytes, Made, result, refusal, Given, given}
-use Rattle.standard.specs.Identifier.{Identifier, Tables, Three, Answer, done, refused, bounded, size, filled, then, withThree, canonical, maximised, minimised}
+use Rattle.standard.specs.Identifier.{Identifier, Tables, Three, Answer, done, refused, bounded, printedLength, filled, then, withThree, canonical, maximised, minimised}
 use Rattle.standard.specs.Reading.{Fault, faultOf, Read, good, bad, readAs, read, print, identifierOf, split}
 use Rattle.standard.specs.Calls.{Operation, canonicalise, maximise, minimise}
-use Rattle.standard.specs.Table.{TableFault, tablesOf, check}
+use Rattle.standard.specs.Table.{TableFault, tablesOf, check, toCanonicalise, toMaximise, toChain, toCheck}
 use Rattle.standard.specs.Make.{operate, made, makeOf, make, listed, chainMade, chainFrom, afterCheck, canonicaliseMade, maximiseMade, minimiseMade, listMade}
 use Rattle.standard.proofs.Numbers.{Within, fault-within, TableWithin, check-within}
 use Rattle.standard.proofs.Bounds.{Below, fault-below, AllNamed, check-named}
@@ -72,7 +72,7 @@ SmallAnswer (refused n) = n < 256
 
 bounded-small : (i : Identifier) → SmallAnswer (bounded i)
 unfolding bounded SmallAnswer
-bounded-small i = go (leb (size i) 255)
+bounded-small i = go (leb (printedLength i) 255)
   where
     go : (b : Bool) → SmallAnswer (cond b (done i) (refused 9))
     go true = tt
@@ -99,7 +99,7 @@ unfolding SmallAnswer Small
 refused-small a n h e = let k = subst SmallAnswer e h in (k, (omega arith, omega arith))
 
 -- a result is read back, and so is short
-module _ (A L P x : Bytes) (pass : check true true A L P ≡ none) where
+module _ (A L P x : Bytes) (pass : check toCheck A L P ≡ none) where
   abbrev T : Tables
   T = tablesOf A L P
 
@@ -126,17 +126,17 @@ module _ (A L P x : Bytes) (pass : check true true A L P ≡ none) where
 
 pub canonicalise-small : (A x : Bytes) → Small (canonicaliseMade A x)
 unfolding canonicaliseMade
-canonicalise-small A x = after-small _ _ (check-within false false A [] []) (check-named false false A [] []) (λ e. make-small A [] [] x (narrow-aliases A ∙ e) canonicalise)
+canonicalise-small A x = after-small _ _ (check-within toCanonicalise A [] []) (check-named toCanonicalise A [] []) (λ e. make-small A [] [] x (narrow-aliases A ∙ e) canonicalise)
 
 pub maximise-small : (A L x : Bytes) → Small (maximiseMade A L x)
 unfolding maximiseMade
-maximise-small A L x = after-small _ _ (check-within true false A L []) (check-named true false A L []) (λ e. make-small A L [] x (narrow-likely A L ∙ e) maximise)
+maximise-small A L x = after-small _ _ (check-within toMaximise A L []) (check-named toMaximise A L []) (λ e. make-small A L [] x (narrow-likely A L ∙ e) maximise)
 
 pub minimise-small : (A L x : Bytes) → Small (minimiseMade A L x)
 unfolding minimiseMade
-minimise-small A L x = after-small _ _ (check-within true false A L []) (check-named true false A L []) (λ e. make-small A L [] x (narrow-likely A L ∙ e) minimise)
+minimise-small A L x = after-small _ _ (check-within toMaximise A L []) (check-named toMaximise A L []) (λ e. make-small A L [] x (narrow-likely A L ∙ e) minimise)
 
-chain-small : (A P x : Bytes) → check false true A [] P ≡ none → Small (chainFrom (tablesOf A [] P) (read x))
+chain-small : (A P x : Bytes) → check toChain A [] P ≡ none → Small (chainFrom (tablesOf A [] P) (read x))
 unfolding chainFrom chainMade listed Small operate
 chain-small A P x pass = go (read x) refl
   where
@@ -152,4 +152,4 @@ chain-small A P x pass = go (read x) refl
 
 pub list-small : (A P x : Bytes) → Small (listMade A P x)
 unfolding listMade
-list-small A P x = after-small _ _ (check-within false true A [] P) (check-named false true A [] P) (chain-small A P x)
+list-small A P x = after-small _ _ (check-within toChain A [] P) (check-named toChain A [] P) (chain-small A P x)

@@ -14,6 +14,7 @@ use Rattle.standard.specs.Reading.{split, afterFirst, clean, unclean, badTag, w
 use Rattle.subtag.specs.Subtags.{PlainBytes, PlainTag}
 use Rattle.subtag.specs.Sections.{tagsOf, led, Led, Plain}
 use Rattle.subtag.proofs.Walk.{split-sep, split-byte, split-cons, label-sep, after-sep}
+use Rattle.standard.proofs.General.{and-true as and-cases}
 
 -- in lower case, with no separator
 unfoldable pub Low : Tag → Type 0
@@ -47,10 +48,6 @@ tags-led (t ∷ ts) h = after-sep 45 (t ++ led ts) hyphen ∙ split-low t (led t
 or-cases : {P : Type 0} (a b : Bool) → (a || b) ≡ true → (a ≡ true → P) → (b ≡ true → P) → P
 or-cases true b e f g = f refl
 or-cases false b e f g = g e
-
-and-cases : (a b : Bool) → (a && b) ≡ true → (a ≡ true) × (b ≡ true)
-and-cases true b e = (refl, e)
-and-cases false b e = (e, absurd (let z : _≡_ {A = ℕ} 0 1 = cc in omega arith))
 
 within : (lo hi b : ℕ) → (leb lo b && leb b hi) ≡ true → (lo ≤ b) × (b ≤ hi)
 within lo hi b e = let h = and-cases (leb lo b) (leb b hi) e in (leb-true lo b (h .0), leb-true b hi (h .1))

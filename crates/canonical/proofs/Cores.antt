@@ -1,6 +1,5 @@
 -- The three of the canonical form, from the input's bytes and the language's alias. Assumes nothing.
 use mathlib.Core.Path.{_≡_, refl, sym, ap, ap₂, _∙_}
-use mathlib.Core.Bool.{false}
 use mathlib.Core.List.{List, [], _∷_, _++_}
 use mathlib.Core.Logic.{⊎-elim}
 use mathlib.Core.Option.{Option, none, some}
@@ -12,13 +11,13 @@ use Rattle.reader.specs.declared.Parts.{Parts as ReaderParts}
 use Rattle.standard.specs.Tag.{Tag, pick, replace}
 use Rattle.standard.specs.Identifier.{Identifier, Three, three, Tables, languageAlias, aliased, canonicalForm, part}
 use Rattle.standard.specs.Reading.{optional, split, identifierOf, faultOf}
-use Rattle.standard.specs.Table.{lookup, rows, printThree, languageKey, scriptKey, regionKey, tablesOf, check}
+use Rattle.standard.specs.Table.{lookup, rows, printThree, languageKey, scriptKey, regionKey, tablesOf, check, toCanonicalise}
 use Rattle.standard.proofs.Round.{Shaped}
 use Rattle.standard.proofs.Closed.{canon-printable}
 use Rattle.standard.proofs.Table.{shaped-tables}
 use Rattle.reader.specs.Parts.{partsOf}
 use Rattle.byte_string.specs.Strings.{endOf}
-use Rattle.canonical.specs.declared.three.Ends.{Ends}
+use Rattle.canonical.specs.declared.lsr.Ends.{Ends}
 use Rattle.subtag.specs.Sections.{led}
 use Rattle.aliases.specs.Replaced.{replacedBy, aliasedPart}
 use Rattle.row_shapes.specs.Shapes.{scriptEnd}
@@ -57,7 +56,7 @@ pub record Written (A x w : List ℕ) (q : ReaderParts) (e s script-at region-at
   pub word-region : length w - afterSeparator s (length w) ≤ 8
   pub room : length (take e w) + (length (partBytes A scriptKey 1 x script-at (q .script) w e s) + length (partBytes A regionKey 8 x region-at (q .region) w s (length w))) ≤ 17
 
-module _ (A x : List ℕ) (t : check false false A [] [] ≡ none) (f : faultOf x ≡ none) where
+module _ (A x : List ℕ) (t : check toCanonicalise A [] [] ≡ none) (f : faultOf x ≡ none) where
   abbrev i : Identifier
   i = identifierOf (split x)
 

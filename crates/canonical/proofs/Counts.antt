@@ -11,7 +11,7 @@ use lib.Seq.{drop-cons}
 use borrow.Author.Tests.{eq-eqb, ne-eqb}
 use Rattle.standard.specs.Tag.{Tag}
 use Rattle.standard.specs.Grammar.{separator}
-use Rattle.standard.proofs.Bytes.{clash}
+use Rattle.standard.proofs.General.{clash}
 use Rattle.subtag.specs.Sections.{led}
 use Rattle.canonical.specs.Form.{hyphenOf, hyphens}
 use Rattle.canonical.proofs.Again.{Low, AllLow}

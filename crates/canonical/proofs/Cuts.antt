@@ -13,10 +13,10 @@ use Rattle.standard.specs.Tag.{Tag, headTag}
 use Rattle.standard.specs.Grammar.{aScript, aRegion, isVariant, isSingleton, Groups, grouped, flat, only}
 use Rattle.standard.specs.Identifier.{Identifier, part, parts}
 use Rattle.standard.specs.Reading.{optional, split, noBytes, tooLong, unclean, badTag, wrongSize, start, partFault, isX, upTo, from, noLanguage, grammarFault, faultOf, find, afterFirst, identifierOf}
-use Rattle.standard.proofs.Bytes.{bool-cases}
+use Rattle.standard.proofs.General.{bool-cases}
 use Rattle.standard.proofs.Arranged.{firstOf-none}
 use Rattle.reader.specs.Cuts.{Cuts, cutsAfter, cutsOf}
-use Rattle.subtag.specs.Bytes.{tidyByte}
+use Rattle.subtag.specs.Bytes.{normalByte}
 use Rattle.subtag.specs.Sections.{tagsOf, led, Led, Plain}
 use Rattle.subtag.proofs.Walk.{label-fits}
 use Rattle.canonical_order.proofs.Walk.{tidied, section-bytes, Rest, split-rest}
@@ -71,7 +71,7 @@ module _ {x : List ℕ} {at to : ℕ} {u v : List Tag} (c : Cut x at to u v) whe
   pub cut-size : length (take (to - at) (drop at x)) ≡ to - at
   cut-size = length-take-le (to - at) (drop at x) (simp length-drop (omega (arith, c .within, c .fits)))
 
-  pub cut-bytes : map tidyByte (take (to - at) (drop at x)) ≡ led u
+  pub cut-bytes : map normalByte (take (to - at) (drop at x)) ≡ led u
   cut-bytes = section-bytes (take (to - at) (drop at x)) (c .begins) ∙ ap led (c .tags)
 
   -- the next cut
@@ -79,14 +79,14 @@ module _ {x : List ℕ} {at to : ℕ} {u v : List Tag} (c : Cut x at to u v) whe
   cut-next end w y e z = cut x to end w y (c .fits) (c .rest-begins) (c .rest-tags ∙ e) (subst (λ (ts : List Tag). Plain ts) e (c .rest-plain)) z
 
 -- a section of one subtag, without its separator
-pub cut-one : (x : List ℕ) (at to : ℕ) (t : Tag) (v : List Tag) → Cut x at to (optional t) v → at < to → map tidyByte (take (to - (at + 1)) (drop (at + 1) x)) ≡ t
+pub cut-one : (x : List ℕ) (at to : ℕ) (t : Tag) (v : List Tag) → Cut x at to (optional t) v → at < to → map normalByte (take (to - (at + 1)) (drop (at + 1) x)) ≡ t
 unfolding optional led
 cut-one x at to [] v c h = absurd (omega (arith, c .size))
 cut-one x at to (b ∷ bs) v c h =
     let n : to - at ≡ suc (to - (at + 1)) = omega arith in
     let d : drop at x ≡ getD x at 0 ∷ drop (at + 1) x = rw (add-one, drop-cons x at 0 (omega (arith, c .fits))) in
-    let e : tidyByte (getD x at 0) ∷ map tidyByte (take (to - (at + 1)) (drop (at + 1) x)) ≡ 45 ∷ ((b ∷ bs) ++ []) =
-    sym (ap₂ (λ (k : ℕ) (y : List ℕ). map tidyByte (take k y)) n d) ∙ cut-bytes c in
+    let e : normalByte (getD x at 0) ∷ map normalByte (take (to - (at + 1)) (drop (at + 1) x)) ≡ 45 ∷ ((b ∷ bs) ++ []) =
+    sym (ap₂ (λ (k : ℕ) (y : List ℕ). map normalByte (take k y)) n d) ∙ cut-bytes c in
     tail-eq-of-cons-eq e ∙ append-nil (b ∷ bs)
 
 -- What an identifier without a fault is.
@@ -121,7 +121,7 @@ otherTags x = afterFirst ((grouped isSingleton (upTo isX (split x))) .before)
 -- Where the parts stand.
 pub record Parts (x : List ℕ) (c : Cuts) (i : Identifier) : Type 0 where
   pub first-fits : length (firstTag x) ≤ length x
-  pub first-bytes : map tidyByte (take (length (firstTag x)) x) ≡ firstTag x
+  pub first-bytes : map normalByte (take (length (firstTag x)) x) ≡ firstTag x
   pub core : Core (firstTag x) (otherTags x)
   pub script : Cut x (length (firstTag x)) (c .script) (optional (find aScript (otherTags x))) (optional (find aRegion (otherTags x)) ++ (i .variants ++ (flat (i .extensions) ++ i .private)))
   pub region : Cut x (c .script) (c .region) (optional (find aRegion (otherTags x))) (i .variants ++ (flat (i .extensions) ++ i .private))
@@ -175,7 +175,7 @@ module _ (x : List ℕ) (a : Accepted x) where
       let c₄ = cut-next c₃ (n + part s + part r + parts vs + parts (flat (G .groups))) (flat (G .groups)) (from isX (split x)) refl (ap (_+_ (n + part s + part r + parts vs)) (parts-led (flat (G .groups)))) in
       record {
         first-fits = f;
-        first-bytes = map-take tidyByte n x ∙ ap (take n) (tidied x ∙ ap (λ (y : Tag). y ++ led (afterFirst (split x))) first-is) ∙ take-at (firstTag x) (led (afterFirst (split x))) n refl;
+        first-bytes = map-take normalByte n x ∙ ap (take n) (tidied x ∙ ap (λ (y : Tag). y ++ led (afterFirst (split x))) first-is) ∙ take-at (firstTag x) (led (afterFirst (split x))) n refl;
         core = core-is;
         script = c₁;
         region = c₂;

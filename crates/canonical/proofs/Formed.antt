@@ -1,6 +1,5 @@
 -- The canonical form, written part by part, is the printed one. Assumes nothing.
 use mathlib.Core.Path.{_≡_, sym, ap, ap₂, _∙_}
-use mathlib.Core.Bool.{false}
 use mathlib.Core.List.{List, [], _∷_, _++_, map, append-assoc}
 use mathlib.Core.Logic.{⊎-elim}
 use mathlib.Core.Option.{none}
@@ -9,22 +8,21 @@ use native.Mathlib.Omega.{arith}
 use lib.ListN.{length, take, drop, length-append, length-drop, length-map}
 use lib.Seq.{sets, sets-eq, take-at, drop-at}
 use Rattle.reader.specs.declared.Parts.{Parts as ReaderParts}
-use Rattle.standard.specs.Tag.{Tag}
+use Rattle.standard.specs.Tag.{Tag, All}
 use Rattle.standard.specs.Grammar.{isSingleton, grouped, flat, arrange}
-use Rattle.standard.specs.Identifier.{Identifier, Tables, canonicalVariants, canonicalForm, part, parts, size}
+use Rattle.standard.specs.Identifier.{Identifier, Tables, canonicalVariants, canonicalForm, part, parts, printedLength}
 use Rattle.standard.specs.Reading.{optional, split, identifierOf, faultOf, print, ofKind}
-use Rattle.standard.specs.Table.{printThree, isWord, isVariantTag, tablesOf, check}
-use Rattle.standard.proofs.Tags.{All}
+use Rattle.standard.specs.Table.{printThree, isWord, isVariantTag, tablesOf, check, toCanonicalise}
 use Rattle.standard.proofs.Bytes.{word}
 use Rattle.standard.proofs.Shapes.{Word}
 use Rattle.standard.proofs.Faults.{Variants}
 use Rattle.standard.proofs.Closed.{canon-printable}
 use Rattle.standard.proofs.Table.{shaped-tables}
-use Rattle.subtag.specs.Bytes.{tidyByte}
+use Rattle.subtag.specs.Bytes.{normalByte}
 use Rattle.byte_string.proofs.Stores.{wrote-two, mapped, all-from}
 use Rattle.reader.specs.Cuts.{cutsOf}
 use Rattle.reader.specs.Parts.{partsOf}
-use Rattle.canonical.specs.declared.three.Ends.{Ends}
+use Rattle.canonical.specs.declared.lsr.Ends.{Ends}
 use Rattle.canonical.specs.declared.form.Form.{Form}
 use Rattle.subtag.specs.Sections.{tagsOf, led, Led, Plain}
 use Rattle.canonical_order.specs.Section.{Each, Arrangeable, isHead, arrangedTags}
@@ -64,7 +62,7 @@ pub record Lent (x : List ℕ) (i : Identifier) (region variants extensions : �
   pub extensions-are : tagsOf (take (extensions - variants) (drop variants x)) ≡ flat (i .extensions)
   pub extensions-plain : Plain (flat (i .extensions))
   pub ready : Ready i
-  pub private-is : map tidyByte (take (length x - extensions) (drop extensions x)) ≡ led (i .private)
+  pub private-is : map normalByte (take (length x - extensions) (drop extensions x)) ≡ led (i .private)
 
 lent-at : (x : List ℕ) → faultOf x ≡ none → (region variants extensions : ℕ) → region ≡ (cutsOf (split x)) .region → variants ≡ (cutsOf (split x)) .variants → extensions ≡ (cutsOf (split x)) .extensions
     → Lent x (identifierOf (split x)) region variants extensions
@@ -87,7 +85,7 @@ lent-at x f region variants extensions a b c =
       extensions-are = p .extensions .tags;
       extensions-plain = p .extensions .plain;
       ready = ready (identifierOf (split x)) r (p .extensions .plain);
-      private-is = ap (map tidyByte) (all-from ((cutsOf (split x)) .extensions) x) ∙ section-bytes (drop ((cutsOf (split x)) .extensions) x) (p .extensions .rest-begins) ∙ ap led (p .extensions .rest-tags);
+      private-is = ap (map normalByte) (all-from ((cutsOf (split x)) .extensions) x) ∙ section-bytes (drop ((cutsOf (split x)) .extensions) x) (p .extensions .rest-begins) ∙ ap led (p .extensions .rest-tags);
     })
 
 pub lent : (x : List ℕ) → faultOf x ≡ none → (q : ReaderParts) → q ≡ partsOf (split x) → Lent x (identifierOf (split x)) (q .region) (q .variants) (q .extensions)
@@ -106,7 +104,7 @@ part-of z o a b c m n e h f g =
     ∙ ap (_++_ a) (append-assoc b c (drop (0 + length (a ++ (b ++ c))) z)) in
     ap (λ (y : List ℕ). take (n - m) (drop m y)) w ∙ ap (take (n - m)) (drop-at a (b ++ (c ++ drop (0 + length (a ++ (b ++ c))) z)) m (sym f)) ∙ take-at b (c ++ drop (0 + length (a ++ (b ++ c))) z) (n - m) (sym k)
 
-module _ (A x : List ℕ) (t : check false false A [] [] ≡ none) (f : faultOf x ≡ none) where
+module _ (A x : List ℕ) (t : check toCanonicalise A [] [] ≡ none) (f : faultOf x ≡ none) where
   abbrev i : Identifier
   i = identifierOf (split x)
 
@@ -191,17 +189,17 @@ module _ (A x : List ℕ) (t : check false false A [] [] ≡ none) (f : faultOf 
         (w₁ : o₁ ≡ sets z 0 three′)
         (h₂ : n₁ ≡ e .region + length (led (canonicalVariants T (tagsOf vBytes)))) (w₂ : o₂ ≡ sets o₁ (e .region) (led (canonicalVariants T (tagsOf vBytes))))
         (h₃ : n₂ ≡ n₁ + length (led (arrangedTags eBytes))) (fits : n₂ ≤ n₁ + length eBytes) (w₃ : o₃ ≡ sets o₂ n₁ (led (arrangedTags eBytes)))
-        (h₄ : n₃ ≡ n₂ + length pBytes) (w₄ : o₄ ≡ sets o₃ n₂ (map tidyByte pBytes)) where
+        (h₄ : n₃ ≡ n₂ + length pBytes) (w₄ : o₄ ≡ sets o₃ n₂ (map normalByte pBytes)) where
       r₁ : e .region ≡ 0 + length three′
       r₁ = omega (arith, ap (λ (y : Ends). y .region) k, three-length)
 
-      private-text : map tidyByte pBytes ≡ led (i .private)
+      private-text : map normalByte pBytes ≡ led (i .private)
       private-text = L .private-is
 
       pub all-written : (n₃ ≡ 0 + length (print (accepted A x))) × (o₄ ≡ sets z 0 (print (accepted A x)))
       all-written =
-          let m = mapped tidyByte n₂ pBytes in
-          let a = wrote-two o₂ o₃ o₄ n₁ n₂ n₃ (led (arrangedTags eBytes)) (map tidyByte pBytes) (extensions′ ++ led (i .private)) (ap₂ (λ (y u : List ℕ). y ++ u) (sym extensions-text) (sym private-text)) h₃ w₃ (h₄ ∙ m) w₄ in
+          let m = mapped normalByte n₂ pBytes in
+          let a = wrote-two o₂ o₃ o₄ n₁ n₂ n₃ (led (arrangedTags eBytes)) (map normalByte pBytes) (extensions′ ++ led (i .private)) (ap₂ (λ (y u : List ℕ). y ++ u) (sym extensions-text) (sym private-text)) h₃ w₃ (h₄ ∙ m) w₄ in
           let b = wrote-two o₁ o₂ o₄ (e .region) n₁ n₃ (led (canonicalVariants T (tagsOf vBytes))) (extensions′ ++ led (i .private)) (variants′ ++ (extensions′ ++ led (i .private)))
           (ap (λ (y : List ℕ). y ++ (extensions′ ++ led (i .private))) (sym variants-text)) h₂ w₂ (a .0) (a .1) in
           wrote-two z o₁ o₄ 0 (e .region) n₃ three′ (variants′ ++ (extensions′ ++ led (i .private))) (print (accepted A x)) text r₁ w₁ (b .0) (b .1)
@@ -217,7 +215,7 @@ module _ (A x : List ℕ) (t : check false false A [] [] ≡ none) (f : faultOf 
 
       pub form-is : (n : ℕ) → n ≡ hyphens (take (n₁ - e .region) (drop (e .region) o₄))
           → _≡_ {A = Form} (record { language = e .language; script = e .script; region = e .region; variants = n₁; extensions = n₂; len = n₃; count = n }) (formOf (accepted A x))
-      unfolding formOf accepted canonicalForm endsOf size canonicalThree
+      unfolding formOf accepted canonicalForm endsOf printedLength canonicalThree
       form-is n h =
           let c = canonicalForm T i in
           let l : e .language ≡ length (c .core .language) = ap (λ (y : Ends). y .language) k in
@@ -227,6 +225,6 @@ module _ (A x : List ℕ) (t : check false false A [] [] ≡ none) (f : faultOf 
           let b : n₂ ≡ length (c .core .language) + part (c .core .script) + part (c .core .region) + parts (c .variants) + parts (flat (c .extensions)) =
           omega (arith, parts-led (flat (c .extensions)), ap length extensions-text) in
           let d : n₃ ≡ length (c .core .language) + (part (c .core .script) + (part (c .core .region) + (parts (c .variants) + (parts (flat (c .extensions)) + parts (c .private))))) =
-          omega (arith, parts-led (c .private), ap length private-text, length-map pBytes tidyByte) in
+          omega (arith, parts-led (c .private), ap length private-text, length-map pBytes normalByte) in
           let g = count-is n h in
           λ j. record { language = l j; script = s j; region = r j; variants = a j; extensions = b j; len = d j; count = g j }

@@ -15,10 +15,9 @@ use Rattle.standard.specs.Identifier.{Identifier, Three, three, und, part}
 use Rattle.standard.specs.Reading.{optional, split, root, find, coreOf, identifierOf, faultOf}
 use Rattle.standard.specs.Table.{languageKey}
 use Rattle.standard.proofs.Tags.{same-eq}
-use Rattle.standard.proofs.Bytes.{clash}
-use Rattle.subtag.specs.Bytes.{tidyByte, raised}
+use Rattle.standard.proofs.General.{clash, le-or-lt}
+use Rattle.subtag.specs.Bytes.{normalByte, cased}
 use Rattle.subtag.specs.Subtags.{PlainTag}
-use Rattle.subtag.proofs.Walk.{le-or-lt}
 use Rattle.reader.specs.declared.Start.{Start}
 use Rattle.reader.specs.declared.Start.the-variants.{Language, Script, Root}
 use Rattle.reader.specs.Cuts.{Cuts, languageCut, cutsAfter, cutsOf}
@@ -41,16 +40,16 @@ unfolding Plain optional PlainTag
 plain-small [] h = omega arith
 plain-small (b ∷ t) h = h .0 .1
 
-no-bytes : (x : List ℕ) (at to : ℕ) → to ≤ at → map tidyByte (between x (afterSeparator at to) to) ≡ []
+no-bytes : (x : List ℕ) (at to : ℕ) → to ≤ at → map normalByte (between x (afterSeparator at to) to) ≡ []
 no-bytes x at to h = let z : to - to ≡ 0 = omega arith in rw (at-once at to h, z)
 
-pub cut-optional : (x : List ℕ) (at to : ℕ) (t : Tag) (v : List Tag) → Cut x at to (optional t) v → map tidyByte (between x (afterSeparator at to) to) ≡ t
+pub cut-optional : (x : List ℕ) (at to : ℕ) (t : Tag) (v : List Tag) → Cut x at to (optional t) v → map normalByte (between x (afterSeparator at to) to) ≡ t
 cut-optional x at to t v c = ⊎-elim absent present (le-or-lt to at)
   where
-    absent : to ≤ at → map tidyByte (between x (afterSeparator at to) to) ≡ t
+    absent : to ≤ at → map normalByte (between x (afterSeparator at to) to) ≡ t
     absent h = let z : length (led (optional t)) ≡ 0 = omega (arith, c .size) in no-bytes x at to h ∙ sym (led-short t z)
 
-    present : at < to → map tidyByte (between x (afterSeparator at to) to) ≡ t
+    present : at < to → map normalByte (between x (afterSeparator at to) to) ≡ t
     present h = rw (behind at to h) (cut-one x at to t v c h)
 
 led-small : (t : Tag) → Plain (optional t) → length (led (optional t)) ≤ 9
@@ -93,15 +92,15 @@ pub record Given (x : List ℕ) (language script region : ℕ) (t : Three) : Typ
   pub rises : language ≤ script
   pub script-fits : script ≤ length x
   pub script-small : script - scriptStart language script ≤ 8
-  pub script-is : raised 1 (map tidyByte (between x (scriptStart language script) script)) ≡ t .script
+  pub script-is : cased 1 (map normalByte (between x (scriptStart language script) script)) ≡ t .script
   pub climbs : script ≤ region
   pub region-fits : region ≤ length x
   pub region-small : region - afterSeparator script region ≤ 8
-  pub region-is : raised 8 (map tidyByte (between x (afterSeparator script region) region)) ≡ t .region
+  pub region-is : cased 8 (map normalByte (between x (afterSeparator script region) region)) ≡ t .region
 
 -- the start's answer
 pub record Begins (x : List ℕ) (c : Cuts) (t : Three) (s : Start) : Type 0 where
-  pub language : s ≡ Language → t .language ≡ map tidyByte (take (c .language) x)
+  pub language : s ≡ Language → t .language ≡ map normalByte (take (c .language) x)
   pub fits : s ≡ Language → c .language ≤ length x
   pub small : s ≡ Language → c .language ≤ 8
   pub script : s ≡ Script → t .language ≡ und
@@ -153,11 +152,11 @@ module _ (x : List ℕ) (a : Accepted x) where
   unfolding cutsOf cutsAfter
   script-cut = refl
 
-  region-text : map tidyByte (between x (afterSeparator (c .script) (c .region)) (c .region)) ≡ find aRegion (otherTags x)
+  region-text : map normalByte (between x (afterSeparator (c .script) (c .region)) (c .region)) ≡ find aRegion (otherTags x)
   region-text = cut-optional x (c .script) (c .region) (find aRegion (otherTags x)) _ (p .region)
 
-  region-upper : raised 8 (map tidyByte (between x (afterSeparator (c .script) (c .region)) (c .region))) ≡ upper (find aRegion (otherTags x))
-  region-upper = ap (raised 8) region-text ∙ raised-upper 8 (find aRegion (otherTags x)) (plain-small (find aRegion (otherTags x)) (p .region .plain))
+  region-upper : cased 8 (map normalByte (between x (afterSeparator (c .script) (c .region)) (c .region))) ≡ upper (find aRegion (otherTags x))
+  region-upper = ap (cased 8) region-text ∙ raised-upper 8 (find aRegion (otherTags x)) (plain-small (find aRegion (otherTags x)) (p .region .plain))
 
   first-small : length (firstTag x) ≤ 8
   first-small = rw (first-is x a) at (label-small (split x) (a .plain))
@@ -166,7 +165,7 @@ module _ (x : List ℕ) (a : Accepted x) where
   record Later : Type 0 where
     rises : c .language ≤ c .script
     small : c .script - scriptStart (c .language) (c .script) ≤ 8
-    text : raised 1 (map tidyByte (between x (scriptStart (c .language) (c .script)) (c .script))) ≡ title (find aScript (otherTags x))
+    text : cased 1 (map normalByte (between x (scriptStart (c .language) (c .script)) (c .script))) ≡ title (find aScript (otherTags x))
 
   later : languageCut (firstTag x) ≡ length (firstTag x) → (length (firstTag x) ≡ 0 → ⊥) → Later
   later e n =
@@ -176,12 +175,12 @@ module _ (x : List ℕ) (a : Accepted x) where
       record {
         rises = omega (arith, p .script .within);
         small = rw s (cut-small x (length (firstTag x)) (c .script) (find aScript (otherTags x)) _ (p .script));
-        text = rw s (ap (raised 1) (cut-optional x (length (firstTag x)) (c .script) (find aScript (otherTags x)) _ (p .script)) ∙ raised-title (find aScript (otherTags x)));
+        text = rw s (ap (cased 1) (cut-optional x (length (firstTag x)) (c .script) (find aScript (otherTags x)) _ (p .script)) ∙ raised-title (find aScript (otherTags x)));
       }
 
   -- of the three as they were read
   give : (t : Three) → c .language ≤ c .script → c .script - scriptStart (c .language) (c .script) ≤ 8
-      → raised 1 (map tidyByte (between x (scriptStart (c .language) (c .script)) (c .script))) ≡ t .script → upper (find aRegion (otherTags x)) ≡ t .region → Given x (c .language) (c .script) (c .region) t
+      → cased 1 (map normalByte (between x (scriptStart (c .language) (c .script)) (c .script))) ≡ t .script → upper (find aRegion (otherTags x)) ≡ t .region → Given x (c .language) (c .script) (c .region) t
   give t h k e f = record {
     rises = h;
     script-fits = p .script .fits;
@@ -206,7 +205,7 @@ module _ (x : List ℕ) (a : Accepted x) where
       let s : scriptStart (c .language) (c .script) ≡ 0 = start-first (c .language) (c .script) l in
       let z : c .script - 0 ≡ length (firstTag x) = omega (arith, script-cut, no-part (find aScript (otherTags x)) (r .script)) in
       rw (core-script (firstTag x) (otherTags x) f g)
-      (give _ (omega arith) (rw (s, z) first-small) (rw (s, z) (ap (raised 1) (p .first-bytes) ∙ raised-title (firstTag x))) refl)
+      (give _ (omega arith) (rw (s, z) first-small) (rw (s, z) (ap (cased 1) (p .first-bytes) ∙ raised-title (firstTag x))) refl)
 
   pub given : (l s r : ℕ) → l ≡ c .language → s ≡ c .script → r ≡ c .region → Given x l s r (i .core)
   given l s r u v w = rw (u, v, w, core-is) (given-core (p .core))
@@ -274,14 +273,14 @@ module _ (x : List ℕ) (f : faultOf x ≡ none) (q : ReaderParts) (e : q ≡ pa
 
   -- the language, by the start
   pub as-language : q .start ≡ Language
-      → ((identifierOf (split x)) .core .language ≡ map tidyByte (take (q .language) x)) × (q .language ≤ length x) × (length (map tidyByte (take (q .language) x)) ≤ 8)
-      × (length (map tidyByte (take (q .language) x)) ≡ q .language)
+      → ((identifierOf (split x)) .core .language ≡ map normalByte (take (q .language) x)) × (q .language ≤ length x) × (length (map normalByte (take (q .language) x)) ≤ 8)
+      × (length (map normalByte (take (q .language) x)) ≡ q .language)
   as-language s =
       let r = reads x q e in
       let b = begins x (accepted x f) (q .start) (r .start) in
       let k : q .language ≤ length x = omega (arith, r .language, b .fits s) in
-      let n : length (map tidyByte (take (q .language) x)) ≡ q .language = length-map (take (q .language) x) tidyByte ∙ length-take-le (q .language) x k in
-      (b .language s ∙ ap (λ (m : ℕ). map tidyByte (take m x)) (sym (r .language)), k, omega (arith, r .language, b .small s), n)
+      let n : length (map normalByte (take (q .language) x)) ≡ q .language = length-map (take (q .language) x) normalByte ∙ length-take-le (q .language) x k in
+      (b .language s ∙ ap (λ (m : ℕ). map normalByte (take m x)) (sym (r .language)), k, omega (arith, r .language, b .small s), n)
 
   pub as-script : q .start ≡ Script → (identifierOf (split x)) .core .language ≡ und
   as-script s = (begins x (accepted x f) (q .start) ((reads x q e) .start)) .script s

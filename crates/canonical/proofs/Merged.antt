@@ -1,20 +1,21 @@
 -- The variants, replaced, are a section again, which is then sorted; and how long it can be. Assumes nothing.
 use mathlib.Core.Path.{_≡_, refl, sym, ap, ap₂, _∙_}
-use mathlib.Core.Bool.{Bool, true, false}
+use mathlib.Core.Bool.{true, false}
 use mathlib.Core.List.{List, [], _∷_, _++_, map}
-use mathlib.Core.Logic.{_⊎_, inl, inr}
+use mathlib.Core.Logic.{_⊎_, inl, inr, ⊎-elim}
 use mathlib.Core.Option.{Option, none, some}
 use Prim.Native.Nat.{ℕ, _*_, _≤_}
 use native.Mathlib.Omega.{arith}
 use lib.ListN.{length, take, length-append}
 use lib.Seq.{sets}
 use Rattle.standard.specs.Tag.{Tag, replace, sortBy, itself}
-use Rattle.standard.specs.Grammar.{every, Size, empty, one, two, three, four, several, long, sizeOf, aVariant, kind, kindOf}
+use Rattle.standard.specs.Grammar.{every, size4, size5to8, sizeOf, aVariant, kind, kindOf}
 use Rattle.standard.specs.Identifier.{Tables, canonicalVariants}
 use Rattle.standard.specs.Reading.{optional, ofKind}
-use Rattle.standard.specs.Table.{variantKey, isWord, isVariantTag, tablesOf, check}
-use Rattle.standard.proofs.Bytes.{and-true, word, word-stands}
-use Rattle.standard.proofs.Shapes.{Word}
+use Rattle.standard.specs.Table.{variantKey, isWord, isVariantTag, tablesOf, check, toCanonicalise}
+use Rattle.standard.proofs.General.{and-true}
+use Rattle.standard.proofs.Bytes.{word, word-stands}
+use Rattle.standard.proofs.Shapes.{Word, kind-variant}
 use Rattle.standard.proofs.Sound.{ofKind-eq}
 use Rattle.standard.proofs.Table.{shaped-tables}
 use Rattle.subtag.specs.Subtags.{PlainTag}
@@ -41,19 +42,7 @@ variant-tag : (t : Tag) → isVariantTag t ≡ true → Variant t
 unfolding isVariantTag isWord word
 variant-tag t e = let h = and-true (ofKind aVariant (kindOf t)) (isWord t) e in record { kind = ofKind-eq aVariant (kindOf t) (h .0); word = h .1 }
 
-variant-sizes : (s : Size) (l d n : Bool) → kind s l d n ≡ aVariant → (s ≡ four) ⊎ (s ≡ several)
-unfolding kind
-variant-sizes empty l d n e = inl cc
-variant-sizes one l d n e = inl cc
-variant-sizes two true d n e = inl cc
-variant-sizes two false d n e = inl cc
-variant-sizes three l true n e = inl cc
-variant-sizes three l false n e = inl cc
-variant-sizes four l d n e = inl refl
-variant-sizes several l d n e = inr refl
-variant-sizes long l d n e = inl cc
-
-several-size : (t : Tag) → (sizeOf t ≡ four) ⊎ (sizeOf t ≡ several) → (4 ≤ length t) × (length t ≤ 8)
+several-size : (t : Tag) → (sizeOf t ≡ size4) ⊎ (sizeOf t ≡ size5to8) → (4 ≤ length t) × (length t ≤ 8)
 unfolding sizeOf
 several-size [] (inl e) = absurd (let z : _≡_ {A = ℕ} 0 1 = cc in omega arith)
 several-size [] (inr e) = absurd (let z : _≡_ {A = ℕ} 0 1 = cc in omega arith)
@@ -73,7 +62,7 @@ several-size (a ∷ b ∷ c ∷ d ∷ f ∷ g ∷ h ∷ i ∷ j ∷ t) (inr e) =
 
 pub variant-size : (t : Tag) → Variant t → (4 ≤ length t) × (length t ≤ 8)
 unfolding kindOf
-variant-size t v = several-size t (variant-sizes (sizeOf t) _ _ _ (v .kind))
+variant-size t v = several-size t (⊎-elim (λ h. inl (h .0)) inr (kind-variant (sizeOf t) _ _ _ (v .kind)))
 
 pub low-word : (t : Tag) → Word t → Low t
 unfolding Low every
@@ -109,7 +98,7 @@ unfolding optional
 led-one [] v = absurd (let s = variant-size [] v in omega (arith, s .0))
 led-one (b ∷ t) v = refl
 
-module _ (A : List ℕ) (k : check false false A [] [] ≡ none) where
+module _ (A : List ℕ) (k : check toCanonicalise A [] [] ≡ none) where
   abbrev T : Tables
   T = tablesOf A [] []
 

@@ -1,7 +1,7 @@
 -- What canonicalising answers, by what reading answered. Assumes nothing.
 use mathlib.Core.Path.{_≡_, refl, sym, ap, ap₂, _∙_}
 use mathlib.Core.Bool.{Bool, true, false, cond}
-use mathlib.Core.List.{List, [], _∷_}
+use mathlib.Core.List.{List, []}
 use mathlib.Core.Option.{Option, none, some}
 use Prim.Native.Nat.{ℕ, _≤_, _<_}
 use native.Mathlib.Omega.{arith}
@@ -9,20 +9,18 @@ use lib.Dec.{leb}
 use lib.ListN.{length}
 use lib.Seq.{sets}
 use borrow.Author.Tests.{le-leb, lt-leb}
-use types.Run.{OneOf, miss}
-use denote.Enum.Declared.{tagOf}
 use Rattle.reader.specs.declared.Parts.{Parts as ReaderParts}
-use Rattle.standard.specs.Identifier.{Identifier, Tables, bounded, done, refused, canonical, size}
+use Rattle.standard.specs.Identifier.{Identifier, Tables, bounded, done, refused, canonical, printedLength}
 use Rattle.standard.specs.Reading.{Fault, faultOf, split, identifierOf, print, readAs, read}
 use Rattle.standard.specs.Table.{tablesOf}
-use Rattle.reader.proofs.Reading.{the-type}
 use Rattle.reader.specs.declared.Reading.{Reading}
-use Rattle.reader.specs.declared.Reading.the-variants.{Read as WasRead, Empty, TooLong, BadByte, BadSize, Misplaced, Repeated, Unfinished}
+use Rattle.reader.specs.declared.Reading.the-variants.{Read as WasRead, Refused as Unread}
+use Rattle.reader.specs.declared.Refusal.{Refusal}
 use Rattle.reader.specs.Parts.{partsOf, parts, refused as unread, outcomeOf as readerOutcomeOf, outcomeAs, outcome as readerOutcome}
 use Rattle.canonical.specs.declared.form.Form.{Form}
-use Rattle.canonical.specs.declared.form.Canon.{Canon}
-use Rattle.canonical.specs.declared.form.Canon.the-variants.{Formed, Overlong}
-use Rattle.canonical.specs.Form.{formOf, form, refusal, outcomeOf, formed, canonicalOf, outcome, accepted, unreadOf, FormFits}
+use Rattle.canonical.specs.declared.form.Canon.the-variants.{Formed, Refused}
+use Rattle.canonical.specs.declared.form.NoForm.the-variants.{Unread as NotRead, Overlong}
+use Rattle.canonical.specs.Form.{formOf, form, refusal, outcomeOf, formed, canonicalOf, outcome, accepted, FormFits}
 use Rattle.aliases.proofs.Keyed.{front-in}
 
 -- a refusal of reading
@@ -32,24 +30,10 @@ refused-as T i q none n p e = absurd (let z : _≡_ {A = ℕ} 0 1 = cc in omega 
 refused-as T i q (some f) n p e = let a : n ≡ f .number = cc in let b : p ≡ f .place = cc in ap₂ refusal a b
 
 module _ (A x out : List ℕ) where
-  stood : (n p : ℕ) → unread n p ≡ readerOutcome x → refusal n p ≡ outcome A x
-  unfolding readerOutcome outcome read
-  stood n p e = refused-as (tablesOf A [] []) (identifierOf (split x)) (partsOf (split x)) (faultOf x) n p e
-
   -- where reading refuses, its answer stands
-  pub stands : (r : Reading) → readerOutcomeOf r ≡ readerOutcome x → OneOf (1 ∷ 2 ∷ 3 ∷ 4 ∷ 5 ∷ 6 ∷ 7 ∷ []) (tagOf the-type r) → (outcomeOf (unreadOf r) out ≡ outcome A x) × FormFits (unreadOf r)
-  unfolding readerOutcomeOf unreadOf outcomeOf FormFits
-  stands (WasRead p) e k = absurd (miss (1 ∷ 2 ∷ 3 ∷ 4 ∷ 5 ∷ 6 ∷ 7 ∷ []) 0 tt k)
-  stands Empty e k = (stood 1 0 e, tt)
-  stands TooLong e k = (stood 2 0 e, tt)
-  stands (BadByte at) e k = (stood 3 at e, tt)
-  stands (BadSize at) e k = (stood 4 at e, tt)
-  stands (Misplaced at) e k = (stood 5 at e, tt)
-  stands (Repeated at) e k = (stood 6 at e, tt)
-  stands (Unfinished at) e k = (stood 7 at e, tt)
-
-  pub stands-as : (r : Reading) (c : Canon) → c ≡ unreadOf r → readerOutcomeOf r ≡ readerOutcome x → OneOf (1 ∷ 2 ∷ 3 ∷ 4 ∷ 5 ∷ 6 ∷ 7 ∷ []) (tagOf the-type r) → (outcomeOf c out ≡ outcome A x) × FormFits c
-  stands-as r c f e k = rw f (stands r e k)
+  pub stands : (r : Reading) (why : Refusal) → readerOutcomeOf r ≡ readerOutcome x → r ≡ Unread why → (outcomeOf (Refused (NotRead why)) out ≡ outcome A x) × FormFits (Refused (NotRead why))
+  unfolding readerOutcomeOf readerOutcome outcomeOf outcome read FormFits
+  stands r why e f = (refused-as (tablesOf A [] []) (identifierOf (split x)) (partsOf (split x)) (faultOf x) _ _ (sym (ap readerOutcomeOf f) ∙ e), tt)
 
   -- what was read
   pub was-read : (r : Reading) (p : ReaderParts) → readerOutcomeOf r ≡ readerOutcome x → r ≡ WasRead p → (faultOf x ≡ none) × (p ≡ partsOf (split x))
@@ -66,21 +50,21 @@ module _ (A x out : List ℕ) where
     reads-good = ap (λ (o : Option Fault). canonicalOf (tablesOf A [] []) (readAs o (identifierOf (split x)))) n
 
     module _ (f : Form) (e : f ≡ formOf (accepted A x)) where
-      len-is : f .len ≡ size (accepted A x)
+      len-is : f .len ≡ printedLength (accepted A x)
       unfolding formOf
       len-is = ap (λ (g : Form). g .len) e
 
-      pub too-long : 255 < f .len → (outcomeOf Overlong out ≡ outcome A x) × FormFits Overlong
+      pub too-long : 255 < f .len → (outcomeOf (Refused Overlong) out ≡ outcome A x) × FormFits (Refused Overlong)
       unfolding outcomeOf formed bounded FormFits
       too-long h =
-          let b : leb (size (accepted A x)) 255 ≡ false = lt-leb (size (accepted A x)) 255 (omega (arith, len-is)) in
+          let b : leb (printedLength (accepted A x)) 255 ≡ false = lt-leb (printedLength (accepted A x)) 255 (omega (arith, len-is)) in
           (sym (reads-good ∙ ap (λ (c : Bool). formed (cond c (done (accepted A x)) (refused 9))) b), tt)
 
       pub fits : (z : List ℕ) → f .len ≡ length (print (accepted A x)) → out ≡ sets z 0 (print (accepted A x)) → length out ≡ 512 → f .len ≤ 255
           → (outcomeOf (Formed f) out ≡ outcome A x) × FormFits (Formed f)
       unfolding outcomeOf formed bounded FormFits
       fits z k w l h =
-          let b : leb (size (accepted A x)) 255 ≡ true = le-leb (size (accepted A x)) 255 (omega (arith, len-is)) in (
+          let b : leb (printedLength (accepted A x)) 255 ≡ true = le-leb (printedLength (accepted A x)) 255 (omega (arith, len-is)) in (
             ap₂ form e (front-in z out (print (accepted A x)) (f .len) k w (omega arith)) ∙ sym (reads-good ∙ ap (λ (c : Bool). formed (cond c (done (accepted A x)) (refused 9))) b),
             h,
           )

@@ -6,7 +6,7 @@ use native.Mathlib.Omega.{arith}
 use lib.ListN.{length, take, drop, length-take}
 use borrow.Author.Tests.{lt-ltb, le-ltb, eq-eqb, ne-eqb}
 use Rattle.standard.specs.Tag.{pick}
-use Rattle.subtag.specs.Bytes.{tidyByte, raised}
+use Rattle.subtag.specs.Bytes.{normalByte, cased}
 use Rattle.aliases.specs.Replaced.{aliasedPart}
 use Rattle.canonical.specs.Three.{afterSeparator, scriptStart, partBytes}
 
@@ -30,6 +30,6 @@ pub slice-small : (x : List ℕ) (a b m : ℕ) → b - a ≤ m → length (take 
 slice-small x a b m h = omega (arith, length-take (b - a) (drop a x))
 
 pub part-is : (A name x w : List ℕ) (count start end from to f : ℕ) → f ≡ afterSeparator from to
-    → aliasedPart A name (pick (raised count (map tidyByte (take (end - start) (drop start x)))) (take (to - f) (drop f w))) ≡ partBytes A name count x start end w from to
+    → aliasedPart A name (pick (cased count (map normalByte (take (end - start) (drop start x)))) (take (to - f) (drop f w))) ≡ partBytes A name count x start end w from to
 unfolding partBytes
-part-is A name x w count start end from to f e = ap (λ (b : ℕ). aliasedPart A name (pick (raised count (map tidyByte (take (end - start) (drop start x)))) (take (to - b) (drop b w)))) e
+part-is A name x w count start end from to f e = ap (λ (b : ℕ). aliasedPart A name (pick (cased count (map normalByte (take (end - start) (drop start x)))) (take (to - b) (drop b w)))) e

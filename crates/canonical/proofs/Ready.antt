@@ -6,13 +6,13 @@ use mathlib.Core.Option.{none}
 use Prim.Native.Nat.{ℕ, _<_}
 use native.Mathlib.Omega.{arith}
 use lib.ListN.{length}
-use Rattle.standard.specs.Tag.{Tag, same, order}
+use Rattle.standard.specs.Tag.{Tag, same, order, All}
 use Rattle.standard.specs.Grammar.{oneSize, wrongLength, sizeOf, aScript, aRegion, aVariant, kindOf, variantKind, isVariant, isSingleton, isTwo, isFieldKey, uTag, tTag, Groups, grouped, flat}
 use Rattle.standard.specs.Identifier.{Identifier}
 use Rattle.standard.specs.Reading.{split, optional, afterFirst, wrongSize, wrongValue, alone, faultOf, identifierOf, readAs, read}
-use Rattle.standard.proofs.Tags.{All, same-eq}
+use Rattle.standard.proofs.Tags.{same-eq}
 use Rattle.standard.proofs.Groups.{Lacks, Has, Headed, grouped-before, regroup, all-append}
-use Rattle.standard.proofs.Bytes.{clash}
+use Rattle.standard.proofs.General.{clash}
 use Rattle.standard.proofs.Faults.{Rest, Variants, kind-variant}
 use Rattle.standard.proofs.Round.{Extension, all-impl, all-flat, lacks-variant}
 use Rattle.standard.proofs.Arranged.{Part, Fields, Checked}
@@ -22,19 +22,7 @@ use Rattle.canonical_order.specs.Section.{Longer, Each, Arrangeable, PartOk, Fi
 use Rattle.canonical_order.proofs.Pending.{grouped-all}
 use Rattle.canonical_order.proofs.Boundary.{two-size}
 use Rattle.canonical.proofs.Print.{grouped-singleton}
-
-single : (t : Tag) → isSingleton t ≡ true → length t ≡ 1
-unfolding isSingleton oneSize sizeOf
-single [] e = clash {b = true} refl (sym e)
-single (a ∷ []) e = refl
-single (a ∷ b ∷ []) e = clash {b = true} refl (sym e)
-single (a ∷ b ∷ c ∷ []) e = clash {b = true} refl (sym e)
-single (a ∷ b ∷ c ∷ d ∷ []) e = clash {b = true} refl (sym e)
-single (a ∷ b ∷ c ∷ d ∷ f ∷ []) e = clash {b = true} refl (sym e)
-single (a ∷ b ∷ c ∷ d ∷ f ∷ g ∷ []) e = clash {b = true} refl (sym e)
-single (a ∷ b ∷ c ∷ d ∷ f ∷ g ∷ h ∷ []) e = clash {b = true} refl (sym e)
-single (a ∷ b ∷ c ∷ d ∷ f ∷ g ∷ h ∷ i ∷ []) e = clash {b = true} refl (sym e)
-single (a ∷ b ∷ c ∷ d ∷ f ∷ g ∷ h ∷ i ∷ j ∷ t) e = clash {b = true} refl (sym e)
+use Rattle.reader.proofs.Bodies.{single-length as single}
 
 longer-one : (t : Tag) → isSingleton t ≡ false → wrongSize t ≡ false → 1 < length t
 unfolding isSingleton oneSize sizeOf wrongSize wrongLength

@@ -1,6 +1,6 @@
 -- One turn of the loop that replaces the variants. Assumes nothing.
 use mathlib.Core.Path.{_≡_, refl, sym, ap, ap₂, _∙_, subst}
-use mathlib.Core.List.{List, [], _∷_, _++_, map}
+use mathlib.Core.List.{List, _++_, map}
 use Prim.Native.Nat.{ℕ, _+_, _-_, _≤_, _<_}
 use native.Mathlib.Omega.{arith}
 use lib.ListN.{length, take, drop, length-append}
@@ -9,7 +9,7 @@ use Rattle.standard.specs.Tag.{Tag, headTag, pick}
 use Rattle.standard.specs.Reading.{split, afterFirst}
 use Rattle.standard.specs.Table.{variantKey}
 use Rattle.subtag.specs.declared.Subtag.{Subtag}
-use Rattle.subtag.specs.Bytes.{tidyByte, raised}
+use Rattle.subtag.specs.Bytes.{normalByte, cased}
 use Rattle.subtag.specs.Subtags.{subtagOf, PlainTag}
 use Rattle.byte_string.proofs.Stores.{sets-append}
 use Rattle.subtag.specs.Sections.{tagsOf, led, Led, Plain}
@@ -18,15 +18,11 @@ use Rattle.canonical.specs.Variants.{resolved}
 use Rattle.canonical_order.proofs.Walk.{tidied, tags-end}
 use Rattle.canonical_order.proofs.Picks.{Stepped, stepped}
 use Rattle.canonical_order.proofs.Pending.{map-take}
+use Rattle.standard.proofs.General.{pick-nil as pick-none}
 
 -- the bytes of the subtag at the front
-pub front-tidy : (y : List ℕ) (n : ℕ) → n ≡ length (headTag (split y)) → map tidyByte (take n y) ≡ headTag (split y)
-front-tidy y n e = map-take tidyByte n y ∙ ap (take n) (tidied y) ∙ take-at (headTag (split y)) (led (afterFirst (split y))) n (sym e)
-
-pick-none : (t : Tag) → pick t [] ≡ t
-unfolding pick
-pick-none [] = refl
-pick-none (b ∷ t) = refl
+pub front-normalise : (y : List ℕ) (n : ℕ) → n ≡ length (headTag (split y)) → map normalByte (take n y) ≡ headTag (split y)
+front-normalise y n e = map-take normalByte n y ∙ ap (take n) (tidied y) ∙ take-at (headTag (split y)) (led (afterFirst (split y))) n (sym e)
 
 -- How far the replacing is: what is left goes to the place end.
 pub record Resolving (A s out₀ : List ℕ) (at : ℕ) (out : List ℕ) (end : ℕ) : Type 0 where
@@ -55,11 +51,11 @@ module _ (A s out₀ : List ℕ) (at : ℕ) (out : List ℕ) (end : ℕ) (w : Re
   st : Stepped s at r
   st = stepped s at r h (w .begins) e
 
-  tag-is : (stop : ℕ) → stop ≡ at + 1 + r .len → pick (raised 0 (map tidyByte (take (stop - (at + 1)) (drop (at + 1) s)))) (take 0 s) ≡ t
-  unfolding raised
+  tag-is : (stop : ℕ) → stop ≡ at + 1 + r .len → pick (cased 0 (map normalByte (take (stop - (at + 1)) (drop (at + 1) s)))) (take 0 s) ≡ t
+  unfolding cased
   tag-is stop z =
       let n : stop - (at + 1) ≡ length t = omega (arith, st .size) in
-      pick-none _ ∙ front-tidy (drop (at + 1) s) (stop - (at + 1)) n
+      pick-none _ ∙ front-normalise (drop (at + 1) s) (stop - (at + 1)) n
 
   pub tag-small : r .len ≤ 8
   unfolding Plain PlainTag
@@ -70,7 +66,7 @@ module _ (A s out₀ : List ℕ) (at : ℕ) (out : List ℕ) (end : ℕ) (w : Re
 
   module _ (stop : ℕ) (z : stop ≡ at + 1 + r .len) where
     abbrev given : Tag
-    given = pick (raised 0 (map tidyByte (take (stop - (at + 1)) (drop (at + 1) s)))) (take 0 s)
+    given = pick (cased 0 (map normalByte (take (stop - (at + 1)) (drop (at + 1) s)))) (take 0 s)
 
     part-is : resolved A (tagsOf (drop at s)) ≡ aliasedPart A variantKey given ++ resolved A (tagsOf (drop stop s))
     unfolding resolved

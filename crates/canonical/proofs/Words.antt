@@ -1,6 +1,6 @@
 -- The value of a language's alias: language, perhaps script, perhaps region, and where they end. Assumes nothing.
 use mathlib.Core.Path.{_≡_, refl, sym, ap, _∙_}
-use mathlib.Core.Bool.{Bool, true, false}
+use mathlib.Core.Bool.{true, false}
 use mathlib.Core.List.{List, [], _∷_, _++_, append-nil, append-assoc}
 use mathlib.Core.Logic.{_⊎_, inl, inr, ⊎-elim}
 use mathlib.Core.Option.{Option, none, some}
@@ -11,16 +11,16 @@ use lib.ListN.{length, take, drop, length-append, length-map}
 use lib.Seq.{drop-drop, take-at, drop-at}
 use borrow.Author.Tests.{leb-true, ne-eqb}
 use Rattle.standard.specs.Tag.{Tag, pick}
-use Rattle.standard.specs.Grammar.{upperByte, small, every, title, upper, Size, empty, one, two, three as threeSize, four, several, long, sizeOf, languageSize, isLanguage, aScript, aRegion, kind, kindOf}
+use Rattle.standard.specs.Grammar.{upperByte, small, every, title, upper, Size, size0, size1, size2, size3, size4, size5to8, sizeOver8, sizeOf, languageSize, isLanguage, aScript, aRegion, kind, kindOf}
 use Rattle.standard.specs.Identifier.{Three, three, languageAlias}
 use Rattle.standard.specs.Reading.{optional, joined}
-use Rattle.standard.specs.Table.{pieces, lookup, rows, parse, printThree, languageKey, parsed, tablesOf, rowsFault, clashFault, tooBig, inTable, firstTable, check}
-use Rattle.standard.proofs.Bytes.{clash, and-true}
+use Rattle.standard.specs.Table.{lookup, rows, parse, printThree, languageKey, parsed, tablesOf, check, toCanonicalise}
+use Rattle.standard.proofs.General.{clash, and-true, le-or-lt, pick-nil}
 use Rattle.standard.proofs.Faults.{Maybe}
 use Rattle.standard.proofs.Round.{Shown, Shaped}
+use Rattle.standard.proofs.Shapes.{kind-script, kind-region}
 use Rattle.standard.proofs.Sound.{shown-none}
 use Rattle.standard.proofs.Table.{Passed, passed, three-shaped, three-printed, language-value}
-use Rattle.subtag.proofs.Walk.{le-or-lt}
 use Rattle.byte_string.specs.Strings.{endOf}
 use Rattle.subtag.specs.Sections.{led}
 use Rattle.aliases.specs.Replaced.{replacedBy}
@@ -33,7 +33,7 @@ use Rattle.canonical.proofs.Print.{joined-led}
 use Rattle.canonical.proofs.Places.{behind, at-once}
 
 -- the aliases alone
-pub aliases-passed : (A : List ℕ) → check false false A [] [] ≡ none → Passed A [] []
+pub aliases-passed : (A : List ℕ) → check toCanonicalise A [] [] ≡ none → Passed A [] []
 aliases-passed A e = passed A [] [] (narrow-aliases A ∙ e)
 
 pub three-led : (t : Three) → printThree t ≡ t .language ++ (led (optional (t .script)) ++ led (optional (t .region)))
@@ -47,12 +47,7 @@ pub record Word (A : List ℕ) (l : Tag) (w : List ℕ) : Type 0 where
   pub shaped : Shaped value
   pub alias : (t : Three) → t .language ≡ l → languageAlias ((tablesOf A [] []) .languages l) t ≡ three (value .language) (pick (t .script) (value .script)) (pick (t .region) (value .region))
 
-pick-nil : (t : Tag) → pick t [] ≡ t
-unfolding pick
-pick-nil [] = refl
-pick-nil (b ∷ t) = refl
-
-pub word : (A : List ℕ) (l : Tag) → check false false A [] [] ≡ none → isLanguage l ≡ true → Word A l (replacedBy (lookup (rows A) (languageKey ++ l)) l)
+pub word : (A : List ℕ) (l : Tag) → check toCanonicalise A [] [] ≡ none → isLanguage l ≡ true → Word A l (replacedBy (lookup (rows A) (languageKey ++ l)) l)
 unfolding replacedBy tablesOf languageAlias parsed printThree optional joined title upper
 word A l e k = go (lookup (rows A) (languageKey ++ l)) refl
   where
@@ -73,35 +68,11 @@ word A l e k = go (lookup (rows A) (languageKey ++ l)) refl
         }
 
 -- Sizes.
-script-four : (s : Size) (l d n : Bool) → kind s l d n ≡ aScript → s ≡ four
-unfolding kind
-script-four empty l d n e = cc
-script-four one l d n e = cc
-script-four two true d n e = cc
-script-four two false d n e = cc
-script-four threeSize l true n e = cc
-script-four threeSize l false n e = cc
-script-four four l d n e = refl
-script-four several l d n e = cc
-script-four long l d n e = cc
-
-region-two : (s : Size) (l d n : Bool) → kind s l d n ≡ aRegion → (s ≡ two) ⊎ (s ≡ threeSize)
-unfolding kind
-region-two empty l d n e = inl cc
-region-two one l d n e = inl cc
-region-two two l d n e = inl refl
-region-two threeSize l d n e = inr refl
-region-two four true d n e = inl cc
-region-two four false d true e = inl cc
-region-two four false d false e = inl cc
-region-two several l d n e = inl cc
-region-two long l d n e = inl cc
-
 -- at most so many bytes
 unfoldable bytesOf : Size → ℕ
-bytesOf s = elim s [ empty ↦ 0 | one ↦ 1 | two ↦ 2 | threeSize ↦ 3 | four ↦ 4 | several ↦ 8 | long ↦ 9 ]
+bytesOf s = elim s [ size0 ↦ 0 | size1 ↦ 1 | size2 ↦ 2 | size3 ↦ 3 | size4 ↦ 4 | size5to8 ↦ 8 | sizeOver8 ↦ 9 ]
 
-size-bytes : (t : Tag) → (sizeOf t ≡ long → ⊥) → length t ≤ bytesOf (sizeOf t)
+size-bytes : (t : Tag) → (sizeOf t ≡ sizeOver8 → ⊥) → length t ≤ bytesOf (sizeOf t)
 unfolding bytesOf sizeOf
 size-bytes [] n = omega arith
 size-bytes (a ∷ []) n = omega arith
@@ -114,7 +85,7 @@ size-bytes (a ∷ b ∷ c ∷ d ∷ e ∷ f ∷ g ∷ []) n = omega arith
 size-bytes (a ∷ b ∷ c ∷ d ∷ e ∷ f ∷ g ∷ h ∷ []) n = omega arith
 size-bytes (a ∷ b ∷ c ∷ d ∷ e ∷ f ∷ g ∷ h ∷ i ∷ t) n = absurd (n refl)
 
-size-four : (t : Tag) → sizeOf t ≡ four → length t ≡ 4
+size-four : (t : Tag) → sizeOf t ≡ size4 → length t ≡ 4
 unfolding sizeOf
 size-four [] e = cc
 size-four (a ∷ []) e = cc
@@ -134,13 +105,13 @@ language-size t e =
     go (sizeOf t) h (size-bytes t (λ z. clash {b = true} refl (sym (rw z at h))))
   where
     go : (s : Size) → languageSize s ≡ true → length t ≤ bytesOf s → length t ≤ 8
-    go empty f k = omega arith
-    go one f k = omega arith
-    go two f k = omega arith
-    go threeSize f k = omega arith
-    go four f k = omega arith
-    go several f k = k
-    go long f k = clash {b = true} refl (sym f)
+    go size0 f k = omega arith
+    go size1 f k = omega arith
+    go size2 f k = omega arith
+    go size3 f k = omega arith
+    go size4 f k = omega arith
+    go size5to8 f k = k
+    go sizeOver8 f k = clash {b = true} refl (sym f)
 
 -- a script with its separator has five bytes, a region at most four
 pub script-size : (s : Tag) → Shown aScript title s → (s ≡ []) ⊎ (length s ≡ 4)
@@ -153,19 +124,19 @@ script-size s h = go (h .token) (h .stored) (h .kind)
 
     go : (t : Tag) → s ≡ title t → (t ≡ []) ⊎ (kindOf t ≡ aScript) → (s ≡ []) ⊎ (length s ≡ 4)
     go t e (inl q) = inl (e ∙ ap title q)
-    go t e (inr q) = inr (ap length e ∙ titled t ∙ size-four t (script-four (sizeOf t) _ _ _ q))
+    go t e (inr q) = inr (ap length e ∙ titled t ∙ size-four t (kind-script (sizeOf t) _ _ _ q .0))
 
 pub region-size : (r : Tag) → Shown aRegion upper r → length r ≤ 3
 unfolding Maybe kindOf upper bytesOf
 region-size r h = go (h .token) (h .stored) (h .kind)
   where
-    sized : (t : Tag) → (sizeOf t ≡ two) ⊎ (sizeOf t ≡ threeSize) → length t ≤ 3
+    sized : (t : Tag) → (sizeOf t ≡ size2) ⊎ (sizeOf t ≡ size3) → length t ≤ 3
     sized t (inl z) = let k = size-bytes t (λ y. absurd (let u : _≡_ {A = ℕ} 0 1 = cc in omega arith)) in omega (arith, ap bytesOf z)
     sized t (inr z) = let k = size-bytes t (λ y. absurd (let u : _≡_ {A = ℕ} 0 1 = cc in omega arith)) in omega (arith, ap bytesOf z)
 
     go : (t : Tag) → r ≡ upper t → (t ≡ []) ⊎ (kindOf t ≡ aRegion) → length r ≤ 3
     go t e (inl q) = omega (arith, ap length (e ∙ ap upper q))
-    go t e (inr q) = let k = sized t (region-two (sizeOf t) _ _ _ q) in omega (arith, ap length e, length-map t upperByte)
+    go t e (inr q) = let k = sized t (⊎-elim (λ h. inl (h .0)) (λ h. inr (h .0)) (kind-region (sizeOf t) _ _ _ q)) in omega (arith, ap length e, length-map t upperByte)
 
 -- Where the parts of a printed three stand.
 unfoldable NoHyphen : Tag → Type 0

@@ -1,19 +1,21 @@
 -- What canonicalising an identifier over tested tables gives: the form's bytes and where its parts end, or a refusal.
 -- Assumes nothing.
+use mathlib.Core.Path.{_≡_}
 use mathlib.Core.Bool.{cond}
 use mathlib.Core.List.{List, [], _∷_}
 use Prim.Native.Nat.{ℕ, _+_, _≤_}
 use lib.Dec.{eqb}
 use lib.ListN.{length, take}
 use Rattle.standard.specs.Grammar.{flat}
-use Rattle.standard.specs.Identifier.{Identifier, Tables, Answer, done, refused, canonical, canonicalForm, part, parts, size}
-use Rattle.standard.specs.Reading.{Read, good, bad, read, print, split, identifierOf}
+use Rattle.standard.specs.Identifier.{Identifier, Tables, Answer, done, refused, canonical, canonicalForm, part, parts, printedLength}
+use Rattle.standard.specs.Reading.{Read, good, bad, read, print, split, identifierOf, Fault}
 use Rattle.standard.specs.Table.{tablesOf}
 use Rattle.canonical.specs.declared.form.Form.{Form}
 use Rattle.canonical.specs.declared.form.Canon.{Canon}
-use Rattle.canonical.specs.declared.form.Canon.the-variants.{Formed, Overlong, Empty as CanonEmpty, TooLong as CanonTooLong, BadByte as CanonBadByte, BadSize as CanonBadSize, Misplaced as CanonMisplaced, Repeated as CanonRepeated, Unfinished as CanonUnfinished}
-use Rattle.reader.specs.declared.Reading.{Reading}
-use Rattle.reader.specs.declared.Reading.the-variants.{Read as WasRead, Empty, TooLong, BadByte, BadSize, Misplaced, Repeated, Unfinished}
+use Rattle.canonical.specs.declared.form.Canon.the-variants.{Formed, Refused}
+use Rattle.canonical.specs.declared.form.NoForm.{NoForm}
+use Rattle.canonical.specs.declared.form.NoForm.the-variants.{Unread, Overlong}
+use Rattle.reader.specs.Parts.{faultIs}
 
 -- 1 for a hyphen; and how many of them
 unfoldable pub hyphenOf : ℕ → ℕ
@@ -33,7 +35,7 @@ formOf c =
       region = region;
       variants = region + parts (c .variants);
       extensions = region + parts (c .variants) + parts (flat (c .extensions));
-      len = size c;
+      len = printedLength c;
       count = length (c .variants);
     }
 
@@ -42,17 +44,15 @@ pub data Outcome : Type 0 where
   form : Form → List ℕ → Outcome
   refusal : ℕ → ℕ → Outcome
 
+-- 01, Numbers given back: the fault that each refusal of canonicalising is; a refusal of reading stands
+abbrev pub noFormIs : NoForm → Fault
+noFormIs (Unread r) = faultIs r
+noFormIs Overlong = record { number = 9; place = 0 }
+
 -- what each case of the answer stands for, with the buffer that was lent
 unfoldable pub outcomeOf : Canon → List ℕ → Outcome
 outcomeOf (Formed f) out = form f (take (f .len) out)
-outcomeOf CanonEmpty out = refusal 1 0
-outcomeOf CanonTooLong out = refusal 2 0
-outcomeOf (CanonBadByte at) out = refusal 3 at
-outcomeOf (CanonBadSize at) out = refusal 4 at
-outcomeOf (CanonMisplaced at) out = refusal 5 at
-outcomeOf (CanonRepeated at) out = refusal 6 at
-outcomeOf (CanonUnfinished at) out = refusal 7 at
-outcomeOf Overlong out = refusal 9 0
+outcomeOf (Refused r) out = refusal (noFormIs r .number) (noFormIs r .place)
 
 -- what canonicalising has to give
 unfoldable pub formed : Answer → Outcome
@@ -70,25 +70,12 @@ outcome A x = canonicalOf (tablesOf A [] []) (read x)
 unfoldable pub accepted : List ℕ → List ℕ → Identifier
 accepted A x = canonicalForm (tablesOf A [] []) (identifierOf (split x))
 
--- a refusal of reading stands; a reading without one is none of these
-unfoldable pub unreadOf : Reading → Canon
-unreadOf (WasRead p) = Overlong
-unreadOf Empty = CanonEmpty
-unreadOf TooLong = CanonTooLong
-unreadOf (BadByte at) = CanonBadByte at
-unreadOf (BadSize at) = CanonBadSize at
-unreadOf (Misplaced at) = CanonMisplaced at
-unreadOf (Repeated at) = CanonRepeated at
-unreadOf (Unfinished at) = CanonUnfinished at
+-- the answer is a refusal
+pub record Refuses (c : Canon) : Type 0 where
+  pub refusal : NoForm
+  pub is : c ≡ Refused refusal
 
 -- a form's bytes are within the lent buffer
 unfoldable pub FormFits : Canon → Type 0
 FormFits (Formed f) = f .len ≤ 255
-FormFits CanonEmpty = Unit {0}
-FormFits CanonTooLong = Unit {0}
-FormFits (CanonBadByte at) = Unit {0}
-FormFits (CanonBadSize at) = Unit {0}
-FormFits (CanonMisplaced at) = Unit {0}
-FormFits (CanonRepeated at) = Unit {0}
-FormFits (CanonUnfinished at) = Unit {0}
-FormFits Overlong = Unit {0}
+FormFits (Refused r) = Unit {0}

@@ -9,8 +9,8 @@ use Rattle.standard.specs.Tag.{pick}
 use Rattle.standard.specs.Identifier.{Three, part, aliased}
 use Rattle.standard.specs.Reading.{split, identifierOf}
 use Rattle.standard.specs.Table.{lookup, rows, languageKey, tablesOf}
-use Rattle.subtag.specs.Bytes.{tidyByte, raised}
-use Rattle.canonical.specs.declared.three.Ends.{Ends}
+use Rattle.subtag.specs.Bytes.{normalByte, cased}
+use Rattle.canonical.specs.declared.lsr.Ends.{Ends}
 use Rattle.aliases.specs.Replaced.{replacedBy, aliasedPart}
 
 -- where the three end when they are printed
@@ -36,7 +36,7 @@ scriptStart language script = cond (eqb language 0) 0 (afterSeparator language s
 -- a subtag of a kind with its separator: the one given, else the one in the value w, then through the aliases
 unfoldable pub partBytes : List ℕ → List ℕ → ℕ → List ℕ → ℕ → ℕ → List ℕ → ℕ → ℕ → List ℕ
 partBytes A name count x start end w from to =
-    aliasedPart A name (pick (raised count (map tidyByte (between x start end))) (between w (afterSeparator from to) to))
+    aliasedPart A name (pick (cased count (map normalByte (between x start end))) (between w (afterSeparator from to) to))
 
 -- the key of the lookup of the identifier's language
 unfoldable pub languageLookup : List ℕ → List ℕ

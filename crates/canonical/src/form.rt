@@ -1,25 +1,26 @@
 // The canonical form of an identifier over aliases that were tested, in a lent buffer. The public operations of this
 // crate and of those above it come through here; none of them tests a table twice.
-use crate::three::write_three;
+use crate::lsr::write_three;
 use crate::variants::write_variants;
 use canonical_order::extensions::write_extensions;
+use reader::Fault;
 use reader::Parts;
 use reader::Reading;
+use reader::Refusal;
 use reader::read_parts;
-use subtag::put_tidy;
+use subtag::put_normalised;
 ghost use mathlib.Core.Path.{_≡_};
-ghost use mathlib.Core.Bool.{false};
 ghost use mathlib.Core.List.{[]};
 ghost use mathlib.Core.Option.{none};
-ghost use Prim.Native.Nat.{_+_, _≤_};
+ghost use Prim.Native.Nat.{_+_, _≤_, _<_};
 ghost use lib.ListN.{length};
 ghost use lib.Seq.{sets};
 ghost use Rattle.standard.specs.Reading.{split, faultOf, print};
-ghost use Rattle.standard.specs.Table.{check};
+ghost use Rattle.standard.specs.Table.{check, toCanonicalise};
 ghost use Rattle.table.specs.Hints.{Hinted};
 ghost use Rattle.reader.specs.Parts.{partsOf};
 ghost use Rattle.canonical.specs.Tested.{TestedWith};
-ghost use Rattle.canonical.specs.Form.{hyphenOf, hyphens, formOf, outcomeOf, outcome, accepted, unreadOf, FormFits};
+ghost use Rattle.canonical.specs.Form.{hyphenOf, hyphens, formOf, noFormIs, outcomeOf, outcome, accepted, Refuses, FormFits};
 
 // Where the parts of the canonical form end in its bytes. Language, script and region stand at the front, so that each
 // form that names some of them is a prefix; then variants, extensions and private use; an absent part ends where the one
@@ -34,17 +35,41 @@ pub struct Form {
     pub count: usize,
 }
 
-// The form, or a refusal with its place.
+// Why there is no form: reading refuses, or the form is over 255 bytes.
+pub enum NoForm {
+    Unread(Refusal),
+    Overlong,
+}
+
+// The form, or why there is none.
 pub enum Canon {
     Formed(Form),
-    Empty,
-    TooLong,
-    BadByte(usize),
-    BadSize(usize),
-    Misplaced(usize),
-    Repeated(usize),
-    Unfinished(usize),
-    Overlong,
+    Refused(NoForm),
+}
+
+// The number and place of a refusal of canonicalising: where reading refuses, its answer stands.
+pub fn fault_of(r: NoForm) -> Fault
+    ensures { λ f. ⌜ (f .number ≡ noFormIs r .number) × (f .place ≡ noFormIs r .place) × (0 < f .number) ⌝ }
+{
+    match r {
+        NoForm::Unread(why) => reader::fault_of(why),
+        NoForm::Overlong => Fault {
+            number: 9,
+            place: 0,
+        },
+    }
+}
+
+// The refusal in an answer that is one.
+pub fn refusal_in(c: Canon) -> NoForm
+    requires { ⌜ Refuses c ⌝ }
+    ensures { λ r. ⌜ c ≡ Canon.Refused r ⌝ }
+{
+    match c {
+        Canon::Refused(r) => r,
+        // no answer that refuses has a form
+        Canon::Formed(_) => { NoForm::Overlong }
+    }
 }
 
 // 1 for a hyphen.
@@ -73,7 +98,8 @@ fn count_subtags(s: &[u8]) -> usize
 // Writes the canonical form of an identifier that was read.
 fn write_form(id: &[u8], p: Parts, aliases: &[u8], hints: &[u16], out: &mut [u8]) -> Form
     requires { ⌜ (faultOf (now id) ≡ none) × (p ≡ partsOf (split (now id))) × TestedWith (now aliases) (now hints) × (length (now out) ≡ 512) ⌝ }
-    ensures { λ r. ⌜ (r ≡ formOf (accepted (now (aliases .entry)) (now (id .entry)))) × (r .len ≡ length (print (accepted (now (aliases .entry)) (now (id .entry))))) × (now (out .exit) ≡ sets (now (out .entry)) 0 (print (accepted (now (aliases .entry)) (now (id .entry))))) ⌝ }
+    ensures { λ r. let out′ = now (out .exit) in let aliases = now (aliases .entry) in let id = now (id .entry) in let out = now (out .entry) in
+        ⌜ (r ≡ formOf (accepted aliases id)) × (r .len ≡ length (print (accepted aliases id))) × (out′ ≡ sets out 0 (print (accepted aliases id))) ⌝ }
 {
     let ends = write_three(id, p, aliases, hints, out);
     let language = ends.language;
@@ -84,7 +110,7 @@ fn write_form(id: &[u8], p: Parts, aliases: &[u8], hints: &[u16], out: &mut [u8]
     let c = p.extensions;
     let variants = write_variants(&id[a..b], aliases, hints, out, region);
     let extensions = write_extensions(&id[b..c], out, variants);
-    let len = put_tidy(&id[c..], out, extensions);
+    let len = put_normalised(&id[c..], out, extensions);
     let count = count_subtags(&out[region..variants]);
     Form {
         language,
@@ -97,34 +123,26 @@ fn write_form(id: &[u8], p: Parts, aliases: &[u8], hints: &[u16], out: &mut [u8]
     }
 }
 
-// The refusal of reading, as canonicalising gives it.
-fn unread(reading: Reading) -> Canon
-    ensures { λ r. ⌜ r ≡ unreadOf reading ⌝ }
+// Writes the canonical form of an identifier that was read, and refuses it over 255 bytes.
+fn form_of(id: &[u8], p: Parts, aliases: &[u8], hints: &[u16], out: &mut [u8]) -> Canon
+    requires { ⌜ (faultOf (now id) ≡ none) × (p ≡ partsOf (split (now id))) × TestedWith (now aliases) (now hints) × (length (now out) ≡ 512) ⌝ }
+    ensures { λ r. ⌜ (outcomeOf r (now (out .exit)) ≡ outcome (now (aliases .entry)) (now (id .entry))) × FormFits r ⌝ }
 {
-    match reading {
-        Reading::Read(_) => Canon::Overlong,
-        Reading::Empty => Canon::Empty,
-        Reading::TooLong => Canon::TooLong,
-        Reading::BadByte(at) => Canon::BadByte(at),
-        Reading::BadSize(at) => Canon::BadSize(at),
-        Reading::Misplaced(at) => Canon::Misplaced(at),
-        Reading::Repeated(at) => Canon::Repeated(at),
-        Reading::Unfinished(at) => Canon::Unfinished(at),
+    let f = write_form(id, p, aliases, hints, out);
+    if 255 < f.len {
+        return Canon::Refused(NoForm::Overlong);
     }
+    Canon::Formed(f)
 }
 
 // Canonicalises an identifier into out, over aliases that passed the check. Where reading refuses, its answer stands.
 pub fn canonical_form(id: &[u8], aliases: &[u8], hints: &[u16], out: &mut [u8]) -> Canon
-    requires { ⌜ (check false false (now aliases) [] [] ≡ none) × (length (now out) ≡ 512) × Hinted (now aliases) (now hints) ⌝ }
+    requires { ⌜ (check toCanonicalise (now aliases) [] [] ≡ none) × (length (now out) ≡ 512) × Hinted (now aliases) (now hints) ⌝ }
     ensures { λ r. ⌜ (outcomeOf r (now (out .exit)) ≡ outcome (now (aliases .entry)) (now (id .entry))) × FormFits r ⌝ }
 {
     let reading = read_parts(id);
-    let Reading::Read(p) = reading else {
-        return unread(reading);
-    };
-    let f = write_form(id, p, aliases, hints, out);
-    if 255 < f.len {
-        return Canon::Overlong;
+    match reading {
+        Reading::Read(p) => form_of(id, p, aliases, hints, out),
+        Reading::Refused(why) => Canon::Refused(NoForm::Unread(why)),
     }
-    Canon::Formed(f)
 }

@@ -1,5 +1,5 @@
-// Inner: the canonical form of an identifier in a buffer, over aliases that passed the check.
+// Inner. The canonical form of an identifier in a buffer, over aliases that passed the check.
 pub mod buffer;
 pub mod form;
-mod three;
+mod lsr;
 mod variants;

@@ -1,8 +1,8 @@
 // The variants of the canonical form: replaced one by one, then in ascending order, of equal ones the first.
-use aliases::replace::write_aliased;
 use crate::buffer::buffer;
+use aliases::replace::write_aliased;
 use canonical_order::sorted::write_sorted;
-use subtag::judge;
+use subtag::scan;
 ghost use mathlib.Core.Path.{_≡_};
 ghost use mathlib.Core.List.{[]};
 ghost use Prim.Native.Nat.{_+_, _≤_};
@@ -10,22 +10,25 @@ ghost use lib.ListN.{length};
 ghost use lib.Seq.{sets};
 ghost use Rattle.standard.specs.Identifier.{canonicalVariants};
 ghost use Rattle.standard.specs.Table.{tablesOf};
-ghost use Rattle.table.specs.Hints.{Indexed};
+ghost use Rattle.byte_string.specs.Strings.{Writes};
 ghost use Rattle.subtag.specs.Sections.{tagsOf, led, Led, Plain};
+ghost use Rattle.table.specs.Hints.{Indexed};
 ghost use Rattle.canonical.specs.Tested.{TestedWith};
 ghost use Rattle.canonical.specs.Variants.{resolved, EachVariant};
 
 // Writes what the aliases make of each variant of the section s, with its separator.
 fn resolve_variants(s: &[u8], aliases: &[u8], hints: &[u16], out: &mut [u8]) -> usize
-    requires { ⌜ Led (now s) × Plain (tagsOf (now s)) × Indexed (now aliases) (now hints) × (length (resolved (now aliases) (tagsOf (now s))) ≤ length (now out)) ⌝ }
-    ensures { λ r. ⌜ (r ≡ length (resolved (now (aliases .entry)) (tagsOf (now (s .entry))))) × (now (out .exit) ≡ sets (now (out .entry)) 0 (resolved (now (aliases .entry)) (tagsOf (now (s .entry))))) ⌝ }
+    requires { let s = now s in let aliases = now aliases in
+        ⌜ Led s × Plain (tagsOf s) × Indexed aliases (now hints) × (length (resolved aliases (tagsOf s)) ≤ length (now out)) ⌝ }
+    ensures { λ r. let out′ = now (out .exit) in let aliases = now (aliases .entry) in let s = now (s .entry) in let out = now (out .entry) in
+        ⌜ (r ≡ length (resolved aliases (tagsOf s))) × (out′ ≡ sets out 0 (resolved aliases (tagsOf s))) ⌝ }
 {
     let n = s.len();
     let mut at = 0;
     let mut end = 0;
     while at < n {
         let start = at + 1;
-        let t = judge(&s[start..]);
+        let t = scan(&s[start..]);
         let stop = start + t.len;
         end = write_aliased(
             &s[start..stop],
@@ -43,9 +46,17 @@ fn resolve_variants(s: &[u8], aliases: &[u8], hints: &[u16], out: &mut [u8]) -> 
 }
 
 // Writes the variants of the canonical form, from those of the section s.
-pub fn write_variants(s: &[u8], aliases: &[u8], hints: &[u16], out: &mut [u8], at: usize) -> usize
-    requires { ⌜ Led (now s) × Plain (tagsOf (now s)) × EachVariant (tagsOf (now s)) × TestedWith (now aliases) (now hints) × (length (now s) ≤ 255) × (at + 459 ≤ length (now out)) ⌝ }
-    ensures { λ r. ⌜ (r ≡ at + length (led (canonicalVariants (tablesOf (now (aliases .entry)) [] []) (tagsOf (now (s .entry)))))) × (now (out .exit) ≡ sets (now (out .entry)) at (led (canonicalVariants (tablesOf (now (aliases .entry)) [] []) (tagsOf (now (s .entry)))))) ⌝ }
+pub(crate) fn write_variants(
+    s: &[u8],
+    aliases: &[u8],
+    hints: &[u16],
+    out: &mut [u8],
+    at: usize,
+) -> usize
+    requires { let s = now s in
+        ⌜ Led s × Plain (tagsOf s) × EachVariant (tagsOf s) × TestedWith (now aliases) (now hints) × (length s ≤ 255) × (at + 459 ≤ length (now out)) ⌝ }
+    ensures { λ r. let out′ = now (out .exit) in let out = now (out .entry) in let aliases = now (aliases .entry) in let s = now (s .entry) in
+        ⌜ Writes out at (led (canonicalVariants (tablesOf aliases [] []) (tagsOf s))) r out′ ⌝ }
 {
     if s.len() == 0 {
         return at;

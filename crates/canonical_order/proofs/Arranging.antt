@@ -10,7 +10,7 @@ use Rattle.standard.specs.Tag.{Tag, same, headTag}
 use Rattle.standard.specs.Grammar.{separator, lowerByte, grouped, flat, uTag, tTag, arrangeKeywords, arrangeFields, arrangeOne, arrange}
 use Rattle.standard.specs.Reading.{split}
 use Rattle.canonical_order.specs.declared.choice.Head.{Head}
-use Rattle.subtag.specs.Bytes.{tidyByte}
+use Rattle.subtag.specs.Bytes.{normalByte}
 use Rattle.subtag.specs.Sections.{tagsOf, led, Led, Plain}
 use Rattle.canonical_order.specs.Section.{Longer, Each, Arrangeable, FieldsOk, isHead, noHead, pickFrom, endFrom, trimmed, sortedTags, sortedBytes, arrangedTags}
 use Rattle.standard.proofs.Tags.{same-eq, same-refl}
@@ -32,10 +32,10 @@ pub record One (g a b : List ℕ) (c : ℕ) : Type 0 where
   pub rest-begins : Led b
   pub rest-plain : Plain (tagsOf b)
   pub rest-longer : Longer (tagsOf b)
-  pub as-u : c ≡ 117 → led (arrangeOne (tagsOf g)) ≡ map tidyByte a ++ led (arrangeKeywords (tagsOf b))
+  pub as-u : c ≡ 117 → led (arrangeOne (tagsOf g)) ≡ map normalByte a ++ led (arrangeKeywords (tagsOf b))
   pub rest-fields : c ≡ 116 → FieldsOk (tagsOf b)
-  pub as-t : c ≡ 116 → led (arrangeOne (tagsOf g)) ≡ map tidyByte a ++ led (arrangeFields (tagsOf b))
-  pub as-other : (c ≡ 117 → ⊥) → (c ≡ 116 → ⊥) → led (arrangeOne (tagsOf g)) ≡ map tidyByte a ++ map tidyByte b
+  pub as-t : c ≡ 116 → led (arrangeOne (tagsOf g)) ≡ map normalByte a ++ led (arrangeFields (tagsOf b))
+  pub as-other : (c ≡ 117 → ⊥) → (c ≡ 116 → ⊥) → led (arrangeOne (tagsOf g)) ≡ map normalByte a ++ map normalByte b
 
 one-u : (h : Tag) (ts : List Tag) → same h uTag ≡ true → arrangeOne (h ∷ ts) ≡ h ∷ arrangeKeywords ts
 unfolding arrangeOne
@@ -89,8 +89,8 @@ one-at g c h ts l e p z o n d =
     let st = step g 0 (length (headTag (split (drop 1 g)))) (omega arith) l refl in
     let hd : headTag (split (drop 1 g)) ≡ h = cc (st .tags) in
     let hc : h ≡ c ∷ [] = first-byte (separator (getD g 1 0)) refl k hd in
-    let a : map tidyByte (take 2 g) ≡ led (h ∷ []) = section-bytes (take 2 g) (w .first-begins) ∙ ap led (w .first) in
-    let b : map tidyByte (drop 2 g) ≡ led ts = section-bytes (drop 2 g) (w .rest-begins) ∙ ap led (w .rest) in
+    let a : map normalByte (take 2 g) ≡ led (h ∷ []) = section-bytes (take 2 g) (w .first-begins) ∙ ap led (w .first) in
+    let b : map normalByte (drop 2 g) ≡ led ts = section-bytes (drop 2 g) (w .rest-begins) ∙ ap led (w .rest) in
     record {
       long = k;
       first-size = sym (length-take-le 2 g (w .fits));
@@ -142,21 +142,21 @@ extension-size g l p a = go (eqb (lowerByte (getD g 1 0)) 117) refl (eqb (lowerB
         → length (led (arrangeOne (tagsOf g))) ≤ length g
     go true e c f w =
         let y = take (length g - 2) (drop 2 g) in
-        let n = ap length (w .as-u (eqb-true (lowerByte (getD g 1 0)) 117 e)) ∙ length-append (map tidyByte (take 2 g)) (led (arrangeKeywords (tagsOf y))) in
-        let m = length-map (take 2 g) tidyByte in
+        let n = ap length (w .as-u (eqb-true (lowerByte (getD g 1 0)) 117 e)) ∙ length-append (map normalByte (take 2 g)) (led (arrangeKeywords (tagsOf y))) in
+        let m = length-map (take 2 g) normalByte in
         let k = keywords-size y (w .rest-begins) (w .rest-plain) (w .rest-longer) in
         omega (arith, w .long, w .first-size, w .rest-size)
     go false e true f w =
         let y = take (length g - 2) (drop 2 g) in
-        let n = ap length (w .as-t (eqb-true (lowerByte (getD g 1 0)) 116 f)) ∙ length-append (map tidyByte (take 2 g)) (led (arrangeFields (tagsOf y))) in
-        let m = length-map (take 2 g) tidyByte in
+        let n = ap length (w .as-t (eqb-true (lowerByte (getD g 1 0)) 116 f)) ∙ length-append (map normalByte (take 2 g)) (led (arrangeFields (tagsOf y))) in
+        let m = length-map (take 2 g) normalByte in
         let k = fields-size y (w .rest-begins) (w .rest-plain) (w .rest-fields (eqb-true (lowerByte (getD g 1 0)) 116 f)) in
         omega (arith, w .long, w .first-size, w .rest-size)
     go false e false f w =
         let y = take (length g - 2) (drop 2 g) in
-        let n = ap length (w .as-other (eqb-false (lowerByte (getD g 1 0)) 117 e) (eqb-false (lowerByte (getD g 1 0)) 116 f)) ∙ length-append (map tidyByte (take 2 g)) (map tidyByte y) in
-        let m = length-map (take 2 g) tidyByte in
-        let k = length-map y tidyByte in
+        let n = ap length (w .as-other (eqb-false (lowerByte (getD g 1 0)) 117 e) (eqb-false (lowerByte (getD g 1 0)) 116 f)) ∙ length-append (map normalByte (take 2 g)) (map normalByte y) in
+        let m = length-map (take 2 g) normalByte in
+        let k = length-map y normalByte in
         omega (arith, w .long, w .first-size, w .rest-size)
 
 one-label : (u : List Tag) → headTag (arrangeOne u) ≡ headTag u
@@ -185,7 +185,7 @@ part-at s at next end h l p e k =
     let d : tagsOf (drop at s) ≡ (t ∷ g .before) ++ flat (g .groups) = head-tags 1 s at next h l e ∙ ap (_∷_ t) (grouped-all (isHead 1) ts) in
     let c : cut (isHead 1) (tagsOf (drop at s)) ≡ t ∷ g .before = ap (cut (isHead 1)) (head-tags 1 s at next h l e) in
     let z : length (take (end - at) (drop at s)) ≡ end - at = length-take-le (end - at) (drop at s) (simp length-drop (omega (arith, w .fits, w .within, w .after))) in
-    let n : length (led (t ∷ g .before)) ≡ end - at = ap (λ (x : List Tag). length (led x)) (sym c) ∙ sym (ap length (w .bytes)) ∙ length-map (take (end - at) (drop at s)) tidyByte ∙ z in
+    let n : length (led (t ∷ g .before)) ≡ end - at = ap (λ (x : List Tag). length (led x)) (sym c) ∙ sym (ap length (w .bytes)) ∙ length-map (take (end - at) (drop at s)) normalByte ∙ z in
     let q = parted (t ∷ g .before) (flat (g .groups)) (drop at s) (end - at) l d n in
     record { size = z; begins = q .first-begins; plain = rw (q .first) ((plain-parts (t ∷ g .before) (flat (g .groups)) (rw d at p)) .0); tags = q .first ∙ sym c }
 
@@ -241,7 +241,7 @@ module _ (s out₀ : List ℕ) (at : ℕ) (l : Led s) (h : Plain (tagsOf s)) (ea
             let g = cut (isHead 1) (tagsOf (drop (r .at) s)) in
             let m = ap (λ (x : List Tag). length (led x)) (found-same .more) ∙ ap length (led-append g (pending (trimmed false) 1 s (r .key))) ∙ length-append (led g) (led (pending (trimmed false) 1 s (r .key))) in
             let n = ap length (its-group .bytes) in
-            let q = length-map (take (end - r .at) (drop (r .at) s)) tidyByte in
+            let q = length-map (take (end - r .at) (drop (r .at) s)) normalByte in
             omega (arith, w .room)
 
         pub part-fits : at + length s ≤ length out₀ → put + length (take (end - r .at) (drop (r .at) s)) ≤ length out

@@ -1,6 +1,6 @@
 -- The language part and the fields of `t`. Assumes nothing.
 use mathlib.Core.Path.{_≡_, refl, sym, ap, ap₂, subst, _∙_}
-use mathlib.Core.Bool.{Bool, true, false, _&&_}
+use mathlib.Core.Bool.{Bool, true, false}
 use mathlib.Core.List.{List, [], _∷_, _++_, map}
 use Prim.Native.Nat.{ℕ, _+_, _-_, _≤_, _<_}
 use native.Mathlib.Omega.{arith}
@@ -12,7 +12,7 @@ use Rattle.standard.specs.Grammar.{Groups, withTag, grouped, flat, only, others
 use Rattle.standard.specs.Reading.{split, afterFirst}
 use Rattle.subtag.specs.declared.Subtag.{Subtag}
 use Rattle.canonical_order.specs.declared.section.What.the-variants.{Field, Variant}
-use Rattle.subtag.specs.Bytes.{tidyByte}
+use Rattle.subtag.specs.Bytes.{normalByte}
 use Rattle.subtag.specs.Subtags.{subtagOf}
 use Rattle.subtag.specs.Sections.{tagsOf, led, Led, Plain}
 use Rattle.canonical_order.specs.Section.{isHead, sortedTags, sortedBytes, tagTest, placeOf, everyTag, PartOk, keyOrValue, FieldsOk}
@@ -22,10 +22,7 @@ use Rattle.canonical_order.proofs.Pending.{led-append, length-led, grou
 use Rattle.canonical_order.proofs.Boundary.{parted, plain-parts, sorted-ones, regrouped, map-same}
 use Rattle.canonical_order.proofs.Tests.{place-before, parted-at}
 use Rattle.canonical_order.proofs.Writes.{sorted-fits}
-
-and-both : (a b : Bool) → (a && b) ≡ true → (a ≡ true) × (b ≡ true)
-and-both true b e = (refl, e)
-and-both false b e = (e, absurd (let z : _≡_ {A = ℕ} 0 1 = cc in omega arith))
+use Rattle.standard.proofs.General.{and-true as and-both}
 
 module _ (p : Tag → Bool) where
   every-only : (ts : List Tag) → everyTag p ts ≡ true → (only p ts ≡ ts) × (others p ts ≡ [])
@@ -58,7 +55,7 @@ pub record PartAt (s : List ℕ) (v : ℕ) (a b : List ℕ) : Type 0 where
   pub rest-size : length b ≡ length s - v
   pub rest-begins : Led b
   pub rest-plain : Plain (tagsOf b)
-  pub bytes : led (arrangePart (tagsOf s)) ≡ map tidyByte a ++ sortedBytes 8 false b
+  pub bytes : led (arrangePart (tagsOf s)) ≡ map normalByte a ++ sortedBytes 8 false b
 
 part-tags : (l : Tag) (ts : List Tag) → PartOk (l ∷ ts) → arrangePart (l ∷ ts) ≡ (l ∷ (grouped isVariant ts) .before) ++ sortBy itself (flat ((grouped isVariant ts) .groups))
 unfolding PartOk arrangePart afterFirst
@@ -172,8 +169,8 @@ part-size (b ∷ r) l h k =
     let v = placeOf Variant (1 + t .len) (tagsOf (drop (1 + t .len) s)) in
     let w = part s v t (omega arith) l h k refl refl in
     let y = take (length s - v) (drop v s) in
-    let n = ap length (w .bytes) ∙ length-append (map tidyByte (take v s)) (sortedBytes 8 false y) in
-    let m = length-map (take v s) tidyByte in
+    let n = ap length (w .bytes) ∙ length-append (map normalByte (take v s)) (sortedBytes 8 false y) in
+    let m = length-map (take v s) normalByte in
     omega (arith, sorted-fits 8 false y (w .rest-begins), w .first-size, w .rest-size, w .fits)
 
 pub fields-size : (s : List ℕ) → Led s → Plain (tagsOf s) → FieldsOk (tagsOf s) → length (led (arrangeFields (tagsOf s))) ≤ length s

@@ -2,9 +2,9 @@
 use mathlib.Core.Path.{_≡_, refl, ap, ap₂, _∙_}
 use mathlib.Core.List.{List, [], _∷_, map}
 use Prim.Native.Nat.{ℕ, compare, Ordering, Ordering·lt, Ordering·eq, Ordering·gt}
-use Rattle.standard.specs.Tag.{Tag, order, insertBy, sortBy, headTag}
+use Rattle.standard.specs.Tag.{Tag, order, insertBy, sortBy, headTag, All}
 use Rattle.subtag.specs.Subtags.{keyOf, PlainTag}
-use Rattle.standard.proofs.Tags.{All, sort-all}
+use Rattle.standard.proofs.Tags.{sort-all}
 use Rattle.subtag.proofs.Keys.{order-key}
 use Rattle.canonical_order.proofs.Selection.{insertN, sortN}
 

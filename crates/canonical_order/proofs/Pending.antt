@@ -10,15 +10,14 @@ use lib.Dec.{leb, ltb}
 use lib.ListN.{length, take, drop, length-append, length-drop, length-map}
 use lib.Seq.{take-at}
 use borrow.Author.Tests.{lt-ltb}
-use Rattle.standard.specs.Tag.{Tag, sortBy, headTag}
+use Rattle.standard.specs.Tag.{Tag, sortBy, headTag, All}
 use Rattle.standard.specs.Grammar.{withTag, grouped, flat}
 use Rattle.standard.specs.Reading.{split}
 use Rattle.canonical_order.specs.declared.choice.Head.{Head}
-use Rattle.subtag.specs.Bytes.{tidyByte}
+use Rattle.subtag.specs.Bytes.{normalByte}
 use Rattle.subtag.specs.Subtags.{keyOf, subtagOf, PlainTag}
 use Rattle.subtag.specs.Sections.{tagsOf, led, Led, Plain}
 use Rattle.canonical_order.specs.Section.{Each, isHead, betterOf, noHead, pickFrom, endFrom}
-use Rattle.standard.proofs.Tags.{All}
 use Rattle.canonical_order.proofs.Walk.{Step, step, section-bytes}
 use Rattle.canonical_order.proofs.Selection.{sortN, above, above-all, lesser, least, lesser-assoc, Over, sort-over, chosen, chosen-none}
 use Rattle.canonical_order.proofs.Keys.{number, Labelled, sort-number, sort-map}
@@ -80,7 +79,7 @@ end-before width at (t ∷ ts) = go (isHead width t) (end-before width (at + 1 +
 
 -- The place of a suffix in a section.
 pub section-size : (s : List ℕ) (at : ℕ) → Led (drop at s) → length (led (tagsOf (drop at s))) ≡ length s - at
-section-size s at l = ap length (sym (section-bytes (drop at s) l)) ∙ length-map (drop at s) tidyByte ∙ length-drop at s
+section-size s at l = ap length (sym (section-bytes (drop at s) l)) ∙ length-map (drop at s) normalByte ∙ length-drop at s
 
 pub record Place (s : List ℕ) (u : List Tag) : Type 0 where
   pub place : ℕ
@@ -220,7 +219,7 @@ pub record GroupAt (width : ℕ) (s : List ℕ) (at next end : ℕ) : Type 0 whe
   pub after : at < next
   pub within : next ≤ end
   pub fits : end ≤ length s
-  pub bytes : map tidyByte (take (end - at) (drop at s)) ≡ led (cut (isHead width) (tagsOf (drop at s)))
+  pub bytes : map normalByte (take (end - at) (drop at s)) ≡ led (cut (isHead width) (tagsOf (drop at s)))
 
 pub record Ahead (s : List ℕ) (next : ℕ) : Type 0 where
   pub fits : next ≤ length s
@@ -259,7 +258,7 @@ module _ (width : ℕ) (s : List ℕ) (at next : ℕ) (h : at < length s) (l : L
         after = omega arith;
         within = omega arith;
         fits = omega arith;
-        bytes = map-take tidyByte (end - at) (drop at s) ∙ ap (take (end - at)) (section-bytes (drop at s) l ∙ d)
+        bytes = map-take normalByte (end - at) (drop at s) ∙ ap (take (end - at)) (section-bytes (drop at s) l ∙ d)
             ∙ take-at (led (t ∷ g .before)) (led (flat (g .groups))) (end - at) z ∙ ap led (sym c);
       }
 

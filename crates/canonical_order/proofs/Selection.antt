@@ -8,7 +8,7 @@ use Prim.Native.Nat.{ℕ, _≤_, _<_, compare, Ordering, Ordering·lt, Ordering�
 use native.Mathlib.Omega.{arith}
 use lib.Dec.{ltb}
 use borrow.Author.Tests.{ltb-true, ltb-false, lt-ltb, le-ltb}
-use Rattle.byte_string.proofs.Orders.{compare-lt, compare-gt, compare-same}
+use Rattle.standard.proofs.General.{compare-lt, compare-gt, compare-same}
 
 module _ {A : Type 0} (key : A → ℕ) where
   unfoldable pub insertN : A → List A → List A

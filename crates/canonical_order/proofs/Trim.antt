@@ -12,7 +12,7 @@ use Rattle.standard.specs.Tag.{Tag, same, headTag}
 use Rattle.standard.specs.Grammar.{grouped, flat, dropTrue, trueTag}
 use Rattle.standard.specs.Reading.{split}
 use Rattle.subtag.specs.declared.Subtag.{Subtag}
-use Rattle.subtag.specs.Bytes.{tidyByte}
+use Rattle.subtag.specs.Bytes.{normalByte}
 use Rattle.subtag.specs.Subtags.{packed, keyOf, subtagOf, PlainBytes, PlainTag}
 use Rattle.subtag.specs.Sections.{tagsOf, led, Led, Plain}
 use Rattle.canonical_order.specs.Section.{isHead, endFrom, endWithout, trimmedEnd, trimmed}
@@ -42,9 +42,9 @@ unfolding headTag
 label-cons t ts = refl
 
 -- a front of a section's subtags, and the bytes of it
-front-bytes : (s : List ℕ) (at n : ℕ) (x y : List Tag) → Led (drop at s) → tagsOf (drop at s) ≡ x ++ y → length (led x) ≡ n → map tidyByte (take n (drop at s)) ≡ led x
+front-bytes : (s : List ℕ) (at n : ℕ) (x y : List Tag) → Led (drop at s) → tagsOf (drop at s) ≡ x ++ y → length (led x) ≡ n → map normalByte (take n (drop at s)) ≡ led x
 front-bytes s at n x y l e z =
-    map-take tidyByte n (drop at s) ∙ ap (take n) (section-bytes (drop at s) l ∙ ap led e ∙ led-append x y) ∙ take-at (led x) (led y) n z
+    map-take normalByte n (drop at s) ∙ ap (take n) (section-bytes (drop at s) l ∙ ap led e ∙ led-append x y) ∙ take-at (led x) (led y) n z
 
 -- the end, by the tests of the code
 pub trim-off : (trim : Bool) (s : List ℕ) (next end : ℕ) → trim ≡ false → end ≡ trimmedEnd trim s next end
@@ -63,7 +63,7 @@ trim-on trim s next end r e h q = simp (e, lt-leb end next h) (ap (λ (t : Subta
 pub record Trimmed (width : ℕ) (trim : Bool) (s : List ℕ) (at next stop : ℕ) : Type 0 where
   pub after : next ≤ stop
   pub fits : stop ≤ length s
-  pub bytes : map tidyByte (take (stop - at) (drop at s)) ≡ led (trimmed trim (cut (isHead width) (tagsOf (drop at s))))
+  pub bytes : map normalByte (take (stop - at) (drop at s)) ≡ led (trimmed trim (cut (isHead width) (tagsOf (drop at s))))
 
 module _ (width : ℕ) (s : List ℕ) (at next end : ℕ) (h : at < length s) (l : Led (drop at s)) (pl : Plain (tagsOf (drop at s)))
     (e : next ≡ at + 1 + length (headTag (tagsOf (drop at s)))) (k : end ≡ endFrom width next (tagsOf (drop next s))) where

@@ -10,11 +10,11 @@ use lib.Seq.{drop-cons, drop-drop}
 use Rattle.standard.specs.Tag.{Tag, headTag}
 use Rattle.standard.specs.Grammar.{separator, lowerByte}
 use Rattle.standard.specs.Reading.{split, afterFirst}
-use Rattle.subtag.specs.Bytes.{tidyByte}
+use Rattle.subtag.specs.Bytes.{normalByte}
 use Rattle.subtag.specs.Sections.{tagsOf, led, Led}
 use Rattle.subtag.proofs.Walk as walk
 use Rattle.subtag.proofs.Walk.{split-cons, label-byte, label-sep, label-fits, after-byte, after-sep}
-use Rattle.subtag.proofs.Bytes.{tidy-sep, tidy-other}
+use Rattle.subtag.proofs.Bytes.{normalise-sep, normalise-other}
 
 pub record Rest (s r : List ℕ) : Type 0 where
   pub begins : Led r
@@ -54,16 +54,16 @@ unfolding tagsOf split afterFirst
 tags-end s at h = ap (λ (x : List ℕ). afterFirst (split x)) (drop-of-length-le s h)
 
 -- the bytes of a section
-pub tidied : (s : List ℕ) → map tidyByte s ≡ headTag (split s) ++ led (afterFirst (split s))
+pub tidied : (s : List ℕ) → map normalByte s ≡ headTag (split s) ++ led (afterFirst (split s))
 unfolding split headTag afterFirst led
 tidied [] = refl
 tidied (b ∷ s) = go (separator b) refl (tidied s)
   where
-    go : (p : Bool) → separator b ≡ p → map tidyByte s ≡ headTag (split s) ++ led (afterFirst (split s))
-        → map tidyByte (b ∷ s) ≡ headTag (split (b ∷ s)) ++ led (afterFirst (split (b ∷ s)))
-    go true e h = rw (label-sep b s e, after-sep b s e, tidy-sep b e, split-cons s) (ap (_∷_ 45) h)
-    go false e h = rw (label-byte b s e, after-byte b s e, tidy-other b e) (ap (_∷_ (lowerByte b)) h)
+    go : (p : Bool) → separator b ≡ p → map normalByte s ≡ headTag (split s) ++ led (afterFirst (split s))
+        → map normalByte (b ∷ s) ≡ headTag (split (b ∷ s)) ++ led (afterFirst (split (b ∷ s)))
+    go true e h = rw (label-sep b s e, after-sep b s e, normalise-sep b e, split-cons s) (ap (_∷_ 45) h)
+    go false e h = rw (label-byte b s e, after-byte b s e, normalise-other b e) (ap (_∷_ (lowerByte b)) h)
 
-pub section-bytes : (s : List ℕ) → Led s → map tidyByte s ≡ led (tagsOf s)
+pub section-bytes : (s : List ℕ) → Led s → map normalByte s ≡ led (tagsOf s)
 unfolding Led tagsOf
 section-bytes s l = tidied s ∙ ap (λ (t : Tag). t ++ led (afterFirst (split s))) l

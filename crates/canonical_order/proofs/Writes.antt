@@ -9,7 +9,7 @@ use lib.Seq.{sets, length-sets}
 use Rattle.standard.specs.Tag.{Tag, order, same, insertBy, sortBy, headTag}
 use Rattle.standard.specs.Grammar.{grouped, flat, dropTrue, trueTag}
 use Rattle.canonical_order.specs.declared.choice.Head.{Head}
-use Rattle.subtag.specs.Bytes.{tidyByte}
+use Rattle.subtag.specs.Bytes.{normalByte}
 use Rattle.subtag.specs.Sections.{tagsOf, led, Led, Plain}
 use Rattle.canonical_order.specs.Section.{isHead, noHead, pickFrom, endFrom, trimmedEnd, trimmed, sortedTags, sortedBytes}
 use Rattle.byte_string.proofs.Stores.{sets-append}
@@ -117,7 +117,7 @@ module _ (width : ℕ) (trim : Bool) (s out₀ : List ℕ) (at : ℕ) (l : Led s
         its-part = let f = found b in trim-at width s (r .at) (r .next) end (f .inside) (f .begins) (f .plain) (f .next-is) k trim stop q
 
         part-size : length (take (stop - r .at) (drop (r .at) s)) ≡ length (led (trimmed trim (cut (isHead width) (tagsOf (drop (r .at) s)))))
-        part-size = sym (length-map (take (stop - r .at) (drop (r .at) s)) tidyByte) ∙ ap length (its-part .bytes)
+        part-size = sym (length-map (take (stop - r .at) (drop (r .at) s)) normalByte) ∙ ap length (its-part .bytes)
 
         more-led : led (pending (trimmed trim) width s last) ≡ led (trimmed trim (cut (isHead width) (tagsOf (drop (r .at) s)))) ++ led (pending (trimmed trim) width s (r .key))
         more-led = ap led ((found b) .more) ∙ led-append (trimmed trim (cut (isHead width) (tagsOf (drop (r .at) s)))) (pending (trimmed trim) width s (r .key))
@@ -128,7 +128,7 @@ module _ (width : ℕ) (trim : Bool) (s out₀ : List ℕ) (at : ℕ) (l : Led s
             let z = ap length more-led ∙ length-append (led (trimmed trim (cut (isHead width) (tagsOf (drop (r .at) s))))) (led (pending (trimmed trim) width s (r .key))) in
             omega (arith, sorted-fits width trim s l, part-size, w .ends, w .same-size)
 
-        pub writing-next : (out′ : List ℕ) (put′ : ℕ) → put′ ≡ put + length (take (stop - r .at) (drop (r .at) s)) → out′ ≡ sets out put (map tidyByte (take (stop - r .at) (drop (r .at) s)))
+        pub writing-next : (out′ : List ℕ) (put′ : ℕ) → put′ ≡ put + length (take (stop - r .at) (drop (r .at) s)) → out′ ≡ sets out put (map normalByte (take (stop - r .at) (drop (r .at) s)))
             → Writing width trim s out₀ at out′ put′ (r .key)
         writing-next out′ put′ c d =
             let g = led (trimmed trim (cut (isHead width) (tagsOf (drop (r .at) s)))) in

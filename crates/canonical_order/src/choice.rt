@@ -1,6 +1,6 @@
 // The head of the next group: of the heads above the last one, the least, and of equal ones the first.
 use subtag::Subtag;
-use subtag::judge;
+use subtag::scan;
 ghost use mathlib.Core.Path.{_≡_};
 ghost use Prim.Native.Nat.{_+_, _<_};
 ghost use lib.ListN.{length};
@@ -38,7 +38,7 @@ fn better(best: Head, width: usize, last: u64, at: usize, t: Subtag) -> Head
 }
 
 // The first of the least heads above last; a head is a subtag of at most width bytes.
-pub fn next_above(s: &[u8], width: usize, last: u64) -> Head
+pub(crate) fn next_above(s: &[u8], width: usize, last: u64) -> Head
     requires { ⌜ Led (now s) × (length (now s) < 4096) ⌝ }
     ensures { λ r. ⌜ r ≡ pickFrom width last 0 (noHead (length (now (s .entry)))) (tagsOf (now (s .entry))) ⌝ }
 {
@@ -51,7 +51,7 @@ pub fn next_above(s: &[u8], width: usize, last: u64) -> Head
     let mut at: usize = 0;
     while at < n {
         let start = at + 1;
-        let t = judge(&s[start..]);
+        let t = scan(&s[start..]);
         let len = t.len;
         best = better(best, width, last, at, t);
         at = start + len;

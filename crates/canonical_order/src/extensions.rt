@@ -4,21 +4,20 @@ use crate::section::What;
 use crate::section::first_of;
 use crate::section::group_end;
 use crate::sorted::write_sorted;
-use subtag::judge;
 use subtag::lower;
-use subtag::put_tidy;
-ghost use mathlib.Core.Path.{_≡_};
+use subtag::put_normalised;
+use subtag::scan;
 ghost use Prim.Native.Nat.{_+_, _≤_, _<_};
 ghost use lib.ListN.{length};
-ghost use lib.Seq.{sets};
 ghost use Rattle.standard.specs.Grammar.{arrangeKeywords, arrangeOne, arrangePart, arrangeFields, grouped};
+ghost use Rattle.byte_string.specs.Strings.{Writes, WritesWithin};
 ghost use Rattle.subtag.specs.Sections.{tagsOf, Led, Plain, led};
 ghost use Rattle.canonical_order.specs.Section.{Longer, Each, Arrangeable, isHead, arrangedTags, PartOk, FieldsOk};
 
 // Writes the attributes and keywords of `u`, a section whose subtags have two bytes or more.
 fn write_keywords(s: &[u8], out: &mut [u8], at: usize) -> usize
     requires { ⌜ (at + length (now s) ≤ length (now out)) × (length (now s) < 4000) × Led (now s) × Plain (tagsOf (now s)) × Longer (tagsOf (now s)) ⌝ }
-    ensures { λ r. ⌜ (r ≡ at + length (led (arrangeKeywords (tagsOf (now (s .entry)))))) × (now (out .exit) ≡ sets (now (out .entry)) at (led (arrangeKeywords (tagsOf (now (s .entry)))))) ⌝ }
+    ensures { λ r. ⌜ Writes (now (out .entry)) at (led (arrangeKeywords (tagsOf (now (s .entry))))) r (now (out .exit)) ⌝ }
 {
     let k = group_end(s, 2, 0);
     let p = write_sorted(&s[..k], 8, false, out, at);
@@ -28,23 +27,26 @@ fn write_keywords(s: &[u8], out: &mut [u8], at: usize) -> usize
 // Writes one extension, its singleton first.
 fn write_extension(g: &[u8], out: &mut [u8], at: usize) -> usize
     requires { ⌜ (at + length (now g) ≤ length (now out)) × (length (now g) < 4000) × Led (now g) × Plain (tagsOf (now g)) × Arrangeable (tagsOf (now g)) ⌝ }
-    ensures { λ r. ⌜ (r ≡ at + length (led (arrangeOne (tagsOf (now (g .entry)))))) × (now (out .exit) ≡ sets (now (out .entry)) at (led (arrangeOne (tagsOf (now (g .entry)))))) ⌝ }
+    ensures { λ r. ⌜ Writes (now (out .entry)) at (led (arrangeOne (tagsOf (now (g .entry))))) r (now (out .exit)) ⌝ }
 {
     let b = lower(g[1]);
-    let put = put_tidy(&g[..2], out, at);
+    let put = put_normalised(&g[..2], out, at);
     if b == 117 {
         return write_keywords(&g[2..], out, put);
     }
     if b == 116 {
         return write_fields(&g[2..], out, put);
     }
-    put_tidy(&g[2..], out, put)
+    put_normalised(&g[2..], out, put)
 }
 
 // Writes the extensions of s in ascending order of their singletons.
 pub fn write_extensions(s: &[u8], out: &mut [u8], at: usize) -> usize
-    requires { ⌜ (at + length (now s) ≤ length (now out)) × (length (now s) < 4000) × Led (now s) × Plain (tagsOf (now s)) × Each Arrangeable ((grouped (isHead 1) (tagsOf (now s))) .groups) ⌝ }
-    ensures { λ r. ⌜ (r ≡ at + length (led (arrangedTags (now (s .entry))))) × (now (out .exit) ≡ sets (now (out .entry)) at (led (arrangedTags (now (s .entry))))) × (r ≤ at + length (now (s .entry))) ⌝ }
+    requires { let s = now s in
+        ⌜ (at + length s ≤ length (now out)) × (length s < 4000) × Led s × Plain (tagsOf s)
+        × Each Arrangeable ((grouped (isHead 1) (tagsOf s)) .groups) ⌝ }
+    ensures { λ r. let out′ = now (out .exit) in let s = now (s .entry) in let out = now (out .entry) in
+        ⌜ WritesWithin (at + length s) out at (led (arrangedTags s)) r out′ ⌝ }
 {
     let mut put = at;
     let mut last: u64 = 0;
@@ -64,22 +66,22 @@ pub fn write_extensions(s: &[u8], out: &mut [u8], at: usize) -> usize
 // Writes a language part: its variants in ascending order.
 fn write_part(s: &[u8], out: &mut [u8], at: usize) -> usize
     requires { ⌜ (at + length (now s) ≤ length (now out)) × (length (now s) < 4000) × Led (now s) × Plain (tagsOf (now s)) × PartOk (tagsOf (now s)) ⌝ }
-    ensures { λ r. ⌜ (r ≡ at + length (led (arrangePart (tagsOf (now (s .entry)))))) × (now (out .exit) ≡ sets (now (out .entry)) at (led (arrangePart (tagsOf (now (s .entry)))))) ⌝ }
+    ensures { λ r. ⌜ Writes (now (out .entry)) at (led (arrangePart (tagsOf (now (s .entry))))) r (now (out .exit)) ⌝ }
 {
     if s.len() == 0 {
         return at;
     }
-    let t = judge(&s[1..]);
+    let t = scan(&s[1..]);
     let len = t.len;
     let v = first_of(s, What::Variant, 1 + len);
-    let p = put_tidy(&s[..v], out, at);
+    let p = put_normalised(&s[..v], out, at);
     write_sorted(&s[v..], 8, false, out, p)
 }
 
 // Writes the language part and the fields of `t`.
 fn write_fields(s: &[u8], out: &mut [u8], at: usize) -> usize
     requires { ⌜ (at + length (now s) ≤ length (now out)) × (length (now s) < 4000) × Led (now s) × Plain (tagsOf (now s)) × FieldsOk (tagsOf (now s)) ⌝ }
-    ensures { λ r. ⌜ (r ≡ at + length (led (arrangeFields (tagsOf (now (s .entry)))))) × (now (out .exit) ≡ sets (now (out .entry)) at (led (arrangeFields (tagsOf (now (s .entry)))))) ⌝ }
+    ensures { λ r. ⌜ Writes (now (out .entry)) at (led (arrangeFields (tagsOf (now (s .entry))))) r (now (out .exit)) ⌝ }
 {
     let k = first_of(s, What::Field, 0);
     let p = write_part(&s[..k], out, at);

@@ -1,7 +1,7 @@
 // The subtags of a longer section judged once, so that each choice of the next head goes over numbers and not over bytes.
 use crate::choice::Head;
 use subtag::Subtag;
-use subtag::judge;
+use subtag::scan;
 ghost use mathlib.Core.Path.{_≡_};
 ghost use Prim.Native.Nat.{_+_, _≤_};
 ghost use lib.ListN.{length, take};
@@ -10,13 +10,13 @@ ghost use Rattle.canonical_order.specs.Section.{noHead};
 ghost use Rattle.canonical_order.specs.Judged.{headKey, headKeys, placesFrom, betterBy, pickBy};
 
 // Room for the numbers of the subtags of 256 bytes, and for their places and the end.
-pub fn no_keys() -> [u64; 128]
+pub(crate) fn no_keys() -> [u64; 128]
     ensures { λ r. ⌜ length r ≡ 128 ⌝ }
 {
     [0u64; 128]
 }
 
-pub fn no_places() -> [usize; 129]
+pub(crate) fn no_places() -> [usize; 129]
     ensures { λ r. ⌜ length r ≡ 129 ⌝ }
 {
     [0usize; 129]
@@ -33,16 +33,18 @@ fn head_key(width: usize, t: Subtag) -> u64
 }
 
 // Writes the numbers and the places of the subtags of s, and after the places the end; gives how many subtags there are.
-pub fn judge_all(s: &[u8], width: usize, keys: &mut [u64], places: &mut [usize]) -> usize
+pub(crate) fn scan_all(s: &[u8], width: usize, keys: &mut [u64], places: &mut [usize]) -> usize
     requires { ⌜ Led (now s) × Plain (tagsOf (now s)) × (length (now s) ≤ 256) × (length (now keys) ≡ 128) × (length (now places) ≡ 129) ⌝ }
-    ensures { λ r. ⌜ (r ≤ 128) × (take r (now (keys .exit)) ≡ headKeys width (tagsOf (now (s .entry)))) × (take (r + 1) (now (places .exit)) ≡ placesFrom 0 (tagsOf (now (s .entry)))) × (length (now (keys .exit)) ≡ 128) × (length (now (places .exit)) ≡ 129) ⌝ }
+    ensures { λ r. let keys′ = now (keys .exit) in let places′ = now (places .exit) in let s = now (s .entry) in
+        ⌜ (r ≤ 128) × (take r keys′ ≡ headKeys width (tagsOf s)) × (take (r + 1) places′ ≡ placesFrom 0 (tagsOf s)) × (length keys′ ≡ 128)
+        × (length places′ ≡ 129) ⌝ }
 {
     let n = s.len();
     let mut at = 0;
     let mut i = 0;
     while at < n {
         let start = at + 1;
-        let t = judge(&s[start..]);
+        let t = scan(&s[start..]);
         let len = t.len;
         keys[i] = head_key(width, t);
         places[i] = at;
@@ -67,7 +69,7 @@ fn better_by(best: Head, last: u64, at: usize, next: usize, key: u64) -> Head
 }
 
 // The first of the least heads above last, in a section that ends at n.
-pub fn next_of(keys: &[u64], places: &[usize], n: usize, last: u64) -> Head
+pub(crate) fn next_of(keys: &[u64], places: &[usize], n: usize, last: u64) -> Head
     requires { ⌜ length (now places) ≡ length (now keys) + 1 ⌝ }
     ensures { λ r. ⌜ r ≡ pickBy last (noHead n) (now (keys .entry)) (now (places .entry)) ⌝ }
 {

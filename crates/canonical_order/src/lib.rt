@@ -1,4 +1,4 @@
-// The subtags of a section in canonical order: variants, attributes, keywords, fields and extensions.
+// Inner. The subtags of a section in canonical order: variants, attributes, keywords, fields and extensions.
 mod choice;
 pub mod extensions;
 mod heads;

@@ -2,9 +2,9 @@
 // no subtags.
 use subtag::Kind;
 use subtag::Subtag;
-use subtag::is_field;
-use subtag::judge;
+use subtag::is_field_key;
 use subtag::kind_of;
+use subtag::scan;
 ghost use mathlib.Core.Path.{_≡_};
 ghost use Prim.Native.Nat.{_+_, _≤_};
 ghost use lib.ListN.{length, drop};
@@ -14,7 +14,7 @@ ghost use Rattle.subtag.specs.Sections.{tagsOf, Led};
 ghost use Rattle.canonical_order.specs.Section.{endFrom, testOf, placeOf};
 
 // The end of the group whose head ends at from.
-pub fn group_end(s: &[u8], width: usize, from: usize) -> usize
+pub(crate) fn group_end(s: &[u8], width: usize, from: usize) -> usize
     requires { ⌜ (from ≤ length (now s)) × Led (drop from (now s)) ⌝ }
     ensures { λ r. ⌜ r ≡ endFrom width from (tagsOf (drop from (now (s .entry)))) ⌝ }
 {
@@ -22,7 +22,7 @@ pub fn group_end(s: &[u8], width: usize, from: usize) -> usize
     let mut at = from;
     while at < n {
         let start = at + 1;
-        let t = judge(&s[start..]);
+        let t = scan(&s[start..]);
         let len = t.len;
         if len <= width {
             return at;
@@ -54,13 +54,13 @@ fn is_what(t: Subtag, what: What) -> bool
     ensures { λ r. ⌜ r ≡ testOf what t ⌝ }
 {
     match what {
-        What::Field => is_field(t),
+        What::Field => is_field_key(t),
         What::Variant => is_variant(t),
     }
 }
 
 // The place of the first such subtag at or after from, or the end.
-pub fn first_of(s: &[u8], what: What, from: usize) -> usize
+pub(crate) fn first_of(s: &[u8], what: What, from: usize) -> usize
     requires { ⌜ (from ≤ length (now s)) × Led (drop from (now s)) ⌝ }
     ensures { λ r. ⌜ r ≡ placeOf what from (tagsOf (drop from (now (s .entry)))) ⌝ }
 {
@@ -68,7 +68,7 @@ pub fn first_of(s: &[u8], what: What, from: usize) -> usize
     let mut at = from;
     while at < n {
         let start = at + 1;
-        let t = judge(&s[start..]);
+        let t = scan(&s[start..]);
         let len = t.len;
         if is_what(t, what) {
             return at;

@@ -1,20 +1,20 @@
 // The groups of a section in ascending order of their heads, by selection: one mechanism for variants, attributes,
 // keywords and fields.
 use crate::choice::next_above;
-use crate::heads::judge_all;
 use crate::heads::next_of;
 use crate::heads::no_keys;
 use crate::heads::no_places;
+use crate::heads::scan_all;
 use crate::section::group_end;
 use subtag::Subtag;
-use subtag::judge;
-use subtag::put_tidy;
+use subtag::put_normalised;
+use subtag::scan;
 ghost use mathlib.Core.Path.{_≡_};
 ghost use Prim.Native.Nat.{_+_, _≤_, _<_};
 ghost use lib.ListN.{length};
-ghost use lib.Seq.{sets};
-ghost use Rattle.canonical_order.specs.Judged.{headKeys, placesFrom};
+ghost use Rattle.byte_string.specs.Strings.{Writes};
 ghost use Rattle.subtag.specs.Sections.{tagsOf, Led, Plain};
+ghost use Rattle.canonical_order.specs.Judged.{headKeys, placesFrom};
 ghost use Rattle.canonical_order.specs.Section.{endWithout, trimmedEnd, sortedBytes};
 
 // The end of a group, whose head ends at next: with trim, before a type that is exactly `true`.
@@ -29,7 +29,7 @@ fn trimmed_end(s: &[u8], trim: bool, next: usize, end: usize) -> usize
         return end;
     }
     let start = next + 1;
-    let t = judge(&s[start..]);
+    let t = scan(&s[start..]);
     without(t, next, end)
 }
 
@@ -54,7 +54,7 @@ const TRUE: u64 = 8390898132396802048;
 // whole section.
 fn write_scanned(s: &[u8], width: usize, trim: bool, out: &mut [u8], at: usize) -> usize
     requires { ⌜ (at + length (now s) ≤ length (now out)) × (length (now s) < 4000) × Led (now s) × Plain (tagsOf (now s)) ⌝ }
-    ensures { λ r. ⌜ (r ≡ at + length (sortedBytes width trim (now (s .entry)))) × (now (out .exit) ≡ sets (now (out .entry)) at (sortedBytes width trim (now (s .entry)))) ⌝ }
+    ensures { λ r. ⌜ Writes (now (out .entry)) at (sortedBytes width trim (now (s .entry))) r (now (out .exit)) ⌝ }
 {
     let mut put = at;
     let mut last: u64 = 0;
@@ -67,7 +67,7 @@ fn write_scanned(s: &[u8], width: usize, trim: bool, out: &mut [u8], at: usize) 
         }
         let end = group_end(s, width, next);
         let stop = trimmed_end(s, trim, next, end);
-        put = put_tidy(&s[from..stop], out, put);
+        put = put_normalised(&s[from..stop], out, put);
         last = h.key;
     }
 }
@@ -82,8 +82,10 @@ fn write_by(
     out: &mut [u8],
     at: usize,
 ) -> usize
-    requires { ⌜ (at + length (now s) ≤ length (now out)) × (length (now s) < 4000) × Led (now s) × Plain (tagsOf (now s)) × (now keys ≡ headKeys width (tagsOf (now s))) × (now places ≡ placesFrom 0 (tagsOf (now s))) ⌝ }
-    ensures { λ r. ⌜ (r ≡ at + length (sortedBytes width trim (now (s .entry)))) × (now (out .exit) ≡ sets (now (out .entry)) at (sortedBytes width trim (now (s .entry)))) ⌝ }
+    requires { let s = now s in
+        ⌜ (at + length s ≤ length (now out)) × (length s < 4000) × Led s × Plain (tagsOf s) × (now keys ≡ headKeys width (tagsOf s))
+        × (now places ≡ placesFrom 0 (tagsOf s)) ⌝ }
+    ensures { λ r. ⌜ Writes (now (out .entry)) at (sortedBytes width trim (now (s .entry))) r (now (out .exit)) ⌝ }
 {
     let n = s.len();
     let mut put = at;
@@ -97,7 +99,7 @@ fn write_by(
         }
         let end = group_end(s, width, next);
         let stop = trimmed_end(s, trim, next, end);
-        put = put_tidy(&s[from..stop], out, put);
+        put = put_normalised(&s[from..stop], out, put);
         last = h.key;
     }
 }
@@ -105,11 +107,11 @@ fn write_by(
 // The same for at most 256 bytes: each subtag is judged once.
 fn write_judged(s: &[u8], width: usize, trim: bool, out: &mut [u8], at: usize) -> usize
     requires { ⌜ (at + length (now s) ≤ length (now out)) × (length (now s) < 4000) × Led (now s) × Plain (tagsOf (now s)) × (length (now s) ≤ 256) ⌝ }
-    ensures { λ r. ⌜ (r ≡ at + length (sortedBytes width trim (now (s .entry)))) × (now (out .exit) ≡ sets (now (out .entry)) at (sortedBytes width trim (now (s .entry)))) ⌝ }
+    ensures { λ r. ⌜ Writes (now (out .entry)) at (sortedBytes width trim (now (s .entry))) r (now (out .exit)) ⌝ }
 {
     let mut keys = no_keys();
     let mut places = no_places();
-    let count = judge_all(s, width, &mut keys, &mut places);
+    let count = scan_all(s, width, &mut keys, &mut places);
     write_by(
         s,
         width,
@@ -124,7 +126,7 @@ fn write_judged(s: &[u8], width: usize, trim: bool, out: &mut [u8], at: usize) -
 // Writes the groups of s in ascending order of their heads. Few subtags are sooner judged again than kept.
 pub fn write_sorted(s: &[u8], width: usize, trim: bool, out: &mut [u8], at: usize) -> usize
     requires { ⌜ (at + length (now s) ≤ length (now out)) × (length (now s) < 4000) × Led (now s) × Plain (tagsOf (now s)) ⌝ }
-    ensures { λ r. ⌜ (r ≡ at + length (sortedBytes width trim (now (s .entry)))) × (now (out .exit) ≡ sets (now (out .entry)) at (sortedBytes width trim (now (s .entry)))) ⌝ }
+    ensures { λ r. ⌜ Writes (now (out .entry)) at (sortedBytes width trim (now (s .entry))) r (now (out .exit)) ⌝ }
 {
     if s.len() < 24 {
         return write_scanned(s, width, trim, out, at);

@@ -1,16 +1,18 @@
-// The rows that the program `inspect` prints: an identifier as asked, and what reading reports of it.
-use tsv::put;
-use tsv::put_asked;
-use tsv::put_number;
+// Public, over lines. The rows that the program `inspect` prints: an identifier as asked, and what reading reports of
+// it.
+use byte_string::end_of;
 use lines::next_line;
 use reader::report::Report;
 use reader::report::Word;
-use byte_string::end_of;
+use tsv::put;
+use tsv::put_asked;
+use tsv::put_number;
 ghost use mathlib.Core.Path.{_≡_};
 ghost use mathlib.Core.List.{_++_};
 ghost use Prim.Native.Nat.{_+_, _≤_};
 ghost use lib.ListN.{length};
 ghost use lib.Seq.{sets};
+ghost use Rattle.byte_string.specs.Strings.{WritesWithin};
 ghost use Rattle.reader.specs.Words.{wordIs, reportIs, Within};
 ghost use Rattle.tsv.specs.Fields.{decimal, field};
 ghost use Rattle.lines.specs.Pieces.{pieceText, pieceUsed};
@@ -33,7 +35,7 @@ fn dashed_word(w: Word) -> Word
 // Writes a word and the mark that ends it at the place at, and gives the next place.
 fn put_word(w: Word, mark: u8, out: &mut [u8], at: usize) -> usize
     requires { ⌜ (w .len ≤ 8) × (at + 9 ≤ length (now out)) ⌝ }
-    ensures { λ r. ⌜ (r ≡ at + length (field (wordIs w) mark)) × (now (out .exit) ≡ sets (now (out .entry)) at (field (wordIs w) mark)) × (r ≤ at + 9) ⌝ }
+    ensures { λ r. ⌜ WritesWithin (at + 9) (now (out .entry)) at (field (wordIs w) mark) r (now (out .exit)) ⌝ }
 {
     let n = w.len;
     let bytes = w.bytes;
@@ -42,7 +44,7 @@ fn put_word(w: Word, mark: u8, out: &mut [u8], at: usize) -> usize
 
 fn put_subtag(w: Word, mark: u8, out: &mut [u8], at: usize) -> usize
     requires { ⌜ (w .len ≤ 8) × (at + 9 ≤ length (now out)) ⌝ }
-    ensures { λ r. ⌜ (r ≡ at + length (field (dashed (wordIs w)) mark)) × (now (out .exit) ≡ sets (now (out .entry)) at (field (dashed (wordIs w)) mark)) × (r ≤ at + 9) ⌝ }
+    ensures { λ r. ⌜ WritesWithin (at + 9) (now (out .entry)) at (field (dashed (wordIs w)) mark) r (now (out .exit)) ⌝ }
 {
     put_word(dashed_word(w), mark, out, at)
 }
@@ -50,7 +52,8 @@ fn put_subtag(w: Word, mark: u8, out: &mut [u8], at: usize) -> usize
 // Writes two numbers, the second with the given mark, at the place at, and gives the next place.
 fn put_two(first: usize, second: usize, mark: u8, out: &mut [u8], at: usize) -> usize
     requires { ⌜ at + 42 ≤ length (now out) ⌝ }
-    ensures { λ r. ⌜ (r ≡ at + length (field (decimal first) 9 ++ field (decimal second) mark)) × (now (out .exit) ≡ sets (now (out .entry)) at (field (decimal first) 9 ++ field (decimal second) mark)) × (r ≤ at + 42) ⌝ }
+    ensures { λ r. let out′ = now (out .exit) in let out = now (out .entry) in
+        ⌜ WritesWithin (at + 42) out at (field (decimal first) 9 ++ field (decimal second) mark) r out′ ⌝ }
 {
     let p = put_number(first, 9, out, at);
     put_number(second, mark, out, p)
@@ -58,7 +61,8 @@ fn put_two(first: usize, second: usize, mark: u8, out: &mut [u8], at: usize) -> 
 
 fn put_three(language: Word, script: Word, region: Word, out: &mut [u8], at: usize) -> usize
     requires { ⌜ (language .len ≤ 8) × (script .len ≤ 8) × (region .len ≤ 8) × (at + 27 ≤ length (now out)) ⌝ }
-    ensures { λ r. ⌜ (r ≡ at + length (threeText (wordIs language) (wordIs script) (wordIs region))) × (now (out .exit) ≡ sets (now (out .entry)) at (threeText (wordIs language) (wordIs script) (wordIs region))) × (r ≤ at + 27) ⌝ }
+    ensures { λ r. let out′ = now (out .exit) in let out = now (out .entry) in
+        ⌜ WritesWithin (at + 27) out at (threeText (wordIs language) (wordIs script) (wordIs region)) r out′ ⌝ }
 {
     let p = put_subtag(language, 9, out, at);
     let q = put_subtag(script, 9, out, p);
@@ -68,7 +72,7 @@ fn put_three(language: Word, script: Word, region: Word, out: &mut [u8], at: usi
 // All fields of a report.
 fn put_report(r: Report, out: &mut [u8], at: usize) -> usize
     requires { ⌜ Within r × (at + 111 ≤ length (now out)) ⌝ }
-    ensures { λ n. ⌜ (n ≡ at + length (fieldsText (reportIs r))) × (now (out .exit) ≡ sets (now (out .entry)) at (fieldsText (reportIs r))) × (n ≤ at + 111) ⌝ }
+    ensures { λ n. ⌜ WritesWithin (at + 111) (now (out .entry)) at (fieldsText (reportIs r)) n (now (out .exit)) ⌝ }
 {
     let language = r.language;
     let script = r.script;
@@ -81,7 +85,7 @@ fn put_report(r: Report, out: &mut [u8], at: usize) -> usize
 // Writes the row of a line at the place at, and gives the next place.
 fn put_row(line: &[u8], out: &mut [u8], at: usize) -> usize
     requires { ⌜ at + 512 ≤ length (now out) ⌝ }
-    ensures { λ r. ⌜ (r ≡ at + length (rowOf (now (line .entry)))) × (now (out .exit) ≡ sets (now (out .entry)) at (rowOf (now (line .entry)))) × (r ≤ at + 512) ⌝ }
+    ensures { λ r. ⌜ WritesWithin (at + 512) (now (out .entry)) at (rowOf (now (line .entry))) r (now (out .exit)) ⌝ }
 {
     let r = reader::report::read(line);
     let asked = put_asked(r.number, line, out, at);
@@ -96,8 +100,9 @@ pub struct Written {
 
 // Writes the rows of the lines of a piece at the front of out, as long as 512 bytes are free before each.
 pub fn rows_of(piece: &[u8], out: &mut [u8]) -> Written
-    ensures { λ r. ⌜ (r .used ≡ pieceUsed rowOf 512 (length (now (out .entry))) (now (piece .entry))) × (r .len ≡ length (pieceText rowOf 512 (length (now (out .entry))) (now (piece .entry))))
-        × (now (out .exit) ≡ sets (now (out .entry)) 0 (pieceText rowOf 512 (length (now (out .entry))) (now (piece .entry)))) × (r .used ≤ length (now (piece .entry))) × (r .len ≤ length (now (out .entry))) ⌝ }
+    ensures { λ r. let out′ = now (out .exit) in let out = now (out .entry) in let piece = now (piece .entry) in
+        ⌜ (r .used ≡ pieceUsed rowOf 512 (length out) piece) × (r .len ≡ length (pieceText rowOf 512 (length out) piece))
+        × (out′ ≡ sets out 0 (pieceText rowOf 512 (length out) piece)) × (r .used ≤ length piece) × (r .len ≤ length out) ⌝ }
 {
     let mut at = 0;
     let mut len = 0;

@@ -1,9 +1,9 @@
 -- Laws of the rows of `keys`. Assumes nothing.
 use mathlib.Core.Path.{_≡_, refl, sym, ap, _∙_}
-use mathlib.Core.Bool.{true, false}
+use mathlib.Core.Bool.{true}
 use mathlib.Core.List.{List, [], _∷_, _++_}
 use mathlib.Core.Option.{Option, none, some}
-use Prim.Native.Nat.{ℕ, _+_, _-_, _≤_, _<_}
+use Prim.Native.Nat.{ℕ, _+_, _-_, _%_, _^_, _≤_, _<_}
 use native.Mathlib.Omega.{arith}
 use lib.Dec.{leb}
 use lib.ListN.{length, take, drop}
@@ -11,14 +11,14 @@ use lib.Seq.{sets, sets-eq, take-at}
 use borrow.Author.Tests.{eq-eqb, ne-eqb, le-leb}
 use Rattle.standard.specs.Delivery.{Bytes, Made, result, refusal, Given, given}
 use Rattle.standard.specs.Calls.{minimise}
-use Rattle.standard.specs.Table.{TableFault, tablesOf, check}
+use Rattle.standard.specs.Table.{TableFault, tablesOf, check, toMaximise}
 use Rattle.standard.specs.Make.{make, makeOf}
 use Rattle.standard.proofs.Demand.{result-of}
 use Rattle.standard.proofs.Numbers.{Proper, TableWithin, check-within}
 use Rattle.standard.proofs.Table.{passed, good-tables, shaped-tables}
 use Rattle.standard.proofs.Whole.{narrow-likely}
 use Rattle.standard.proofs.Long.{read-long, read-short}
-use Rattle.operations.specs.Answer.{answerOf, refusedAnswer, refusedTable}
+use Rattle.operations.specs.Answer.{answerOf}
 use Rattle.operations.specs.Both.{TestedBoth, operationOf}
 use Rattle.operations.specs.Completed.{givenAnswered, answerBy}
 use Rattle.operations.proofs.CompleteChecked.{answer-given, minimised-proper}
@@ -27,6 +27,7 @@ use Rattle.tsv.proofs.Laws.{asked-two, asked-fits}
 use Rattle.lines.specs.Pieces.{rowsText, pieceText, pieceUsed}
 use Rattle.lines.specs.Squeeze.{handed, allLines, together}
 use Rattle.lines.proofs.Pieces.{rest-rows, used-some, first-enough, rows-handed}
+use Rattle.lines.proofs.Counts.{Printing, printing-more}
 use Rattle.table.specs.Lines.{lines}
 use Rattle.table_check.specs.declared.Verdict.{Verdict}
 use Rattle.table_check.specs.declared.Verdict.the-variants.{Bad}
@@ -53,7 +54,7 @@ sets-front : (text out : Bytes) → length text ≤ length out → sets out 0 te
 sets-front text out h = sets-eq text out 0 (omega arith) ∙ (let z : 0 + length text ≡ length text = omega arith in rw z refl)
 
 -- A form has at most 255 bytes: it is read back.
-module _ (A L x : Bytes) (pass : check true false A L [] ≡ none) where
+module _ (A L x : Bytes) (pass : check toMaximise A L [] ≡ none) where
   form-short : (r : Bytes) (w : ℕ) → madeKey A L x ≡ result r w → length r ≤ 255
   unfolding madeKey
   form-short r w e =
@@ -116,35 +117,50 @@ unfolding keptText
 kept-none n form f = rw (ne-eqb n 0 f)
 
 -- The rows of a piece, once they are written.
-module _ (A L x : Bytes) (pass : check true false A L [] ≡ none) (out₀ out : Bytes) (k : Keyed) where
-  pub rows-given : k .number ≡ 0 → k .table ≡ 0 → k .place ≡ 0 → k .used ≡ pieceUsed (keyRow A L) 540 (length out₀) x → k .len ≡ length (pieceText (keyRow A L) 540 (length out₀) x)
+module _ (A L x : Bytes) (pass : check toMaximise A L [] ≡ none) (out₀ out : Bytes) (k : Keyed) where
+  pub rows-given : k .number ≡ 0 → k .place ≡ 0 → k .table ≡ 0 → k .used ≡ pieceUsed (keyRow A L) 540 (length out₀) x → k .len ≡ length (pieceText (keyRow A L) 540 (length out₀) x)
       → out ≡ sets out₀ 0 (pieceText (keyRow A L) 540 (length out₀) x) → k .len ≤ length out₀ → keyedIs k out ≡ keysGiven A L x out₀
   unfolding keysGiven afterTables rowsGiven keyedIs
-  rows-given n t p u l o h =
+  rows-given n p t u l o h =
       let text = pieceText (keyRow A L) 540 (length out₀) x in
       let s : out ≡ text ++ drop (length text) out₀ = o ∙ sets-front text out₀ (omega arith) in
-      rw (pass, n, t, p, u, l, s)
+      rw (pass, n, p, t, u, l, s)
 
 -- a bad table
-pub table-given : {n t p : ℕ} (A L x out : Bytes) (v : Verdict) (r : Answered) → v ≡ Bad n t p → r ≡ refusedTable v → verdictIs v ≡ check true false A L []
-    → keyedIs (record { number = r .number; table = r .table; place = r .place; used = 0; len = 0 }) out ≡ keysGiven A L x out
-unfolding keysGiven afterTables keyedIs refusedTable refusedAnswer
-table-given A L x out v r g e f = rw (← f, g, e, g)
+pub table-given : {n p t : ℕ} (A L x out : Bytes) (v : Verdict) → v ≡ Bad n p t → verdictIs v ≡ check toMaximise A L []
+    → keyedIs (record { number = n; place = p; table = t; used = 0; len = 0 }) out ≡ keysGiven A L x out
+unfolding keysGiven afterTables keyedIs
+table-given A L x out v g f = rw (← f, g)
 
--- where there is room for a row, good tables bring a piece that is not empty further
-pub further : (A L x out₀ out : Bytes) (k : Keyed) → keyedIs k out ≡ keysGiven A L x out₀ → k .number ≡ 0 → 540 ≤ length out₀ → 0 < length x → 0 < k .used
-unfolding keysGiven keyedIs rowsGiven afterTables TableWithin
-further A L x out₀ out k e z h n = go (check true false A L []) (check-within true false A L []) e
-  where
-    rows : Answer
-    rows = rowsGiven (pieceUsed (keyRow A L) 540 (length out₀) x) (pieceText (keyRow A L) 540 (length out₀) x) out₀
+-- a table's fault has a number
+pub fault-number : (A L : Bytes) (f : TableFault) → check toMaximise A L [] ≡ some f → f .fault .number ≡ 0 → ⊥
+unfolding TableWithin
+fault-number A L f g z = let w = rw g at (check-within toMaximise A L []) in omega (arith, w .0)
 
-    used : keyedIs k out ≡ rows → k .used ≡ pieceUsed (keyRow A L) 540 (length out₀) x
-    used q = ap (λ (a : Answer). a .used) q
+-- an answer over good tables, and over bad ones
+module _ (A L x out₀ out : Bytes) (k : Keyed) (e : keyedIs k out ≡ keysGiven A L x out₀) where
+  pub good-keyed : check toMaximise A L [] ≡ none → (k .number ≡ 0) × (k .used ≡ pieceUsed (keyRow A L) 540 (length out₀) x) × (k .len ≡ length (pieceText (keyRow A L) 540 (length out₀) x))
+  unfolding keysGiven keyedIs rowsGiven afterTables
+  good-keyed pass = let q = rw pass at e in (ap (λ (a : Answer). a .number) q, ap (λ (a : Answer). a .used) q, ap (λ (a : Answer). a .len) q)
 
-    go : (o : Option TableFault) → TableWithin o → keyedIs k out ≡ afterTables o rows out₀ → 0 < k .used
-    go none w q = omega (arith, used q, used-some (keyRow A L) 540 (length out₀) x h n)
-    go (some f) w q = let y : k .number ≡ f .fault .number = ap (λ (a : Answer). a .number) q in absurd (omega (arith, w .0))
+  pub bad-keyed : (f : TableFault) → check toMaximise A L [] ≡ some f → k .number ≡ f .fault .number
+  unfolding keysGiven keyedIs afterTables
+  bad-keyed f g = let q = rw g at e in ap (λ (a : Answer). a .number) q
+
+  -- where there is room for a row, good tables bring a piece that is not empty further
+  pub further : k .number ≡ 0 → 540 ≤ length out₀ → 0 < length x → 0 < k .used
+  further z h n = go (check toMaximise A L []) refl
+    where
+      go : (o : Option TableFault) → check toMaximise A L [] ≡ o → 0 < k .used
+      go none g = omega (arith, good-keyed g .1, used-some (keyRow A L) 540 (length out₀) x h n)
+      go (some f) g = absurd (fault-number A L f g (sym (bad-keyed f g) ∙ z))
+
+-- the rows of one call more are counted
+pub keyed-printing : (A L x out₀ out : Bytes) (k : Keyed) (from len len′ : ℕ) → keyedIs k out ≡ keysGiven A L (take (length x - from) (drop from x)) out₀ → k .used ≤ length x - from → len′ ≡ (len + k .len) % 2 ^ 64
+    → check toMaximise A L [] ≡ none → Printing (keyRow A L) x from len → Printing (keyRow A L) x (from + k .used) len′
+keyed-printing A L x out₀ out k from len len′ e w n pass p =
+    let g = good-keyed A L (take (length x - from) (drop from x)) out₀ out k e pass in
+    printing-more (keyRow A L) 540 (length out₀) x from len (k .used) (k .len) (from + k .used) len′ p (g .1) w (g .2) refl n
 
 -- THE PROGRAM: of blocks of input, wherever they end, the rows of the lines that the line reader hands over are the rows
 -- of the lines of the input.

@@ -1,5 +1,5 @@
 -- The rows of the program `keys`, and what a call gives back for a piece of input lines. Assumes nothing.
-use mathlib.Core.Bool.{true, false, cond}
+use mathlib.Core.Bool.{cond}
 use mathlib.Core.List.{[], _∷_, _++_}
 use mathlib.Core.Option.{Option, none, some}
 use Prim.Native.Nat.{ℕ}
@@ -7,7 +7,7 @@ use lib.Dec.{eqb}
 use lib.ListN.{length, drop}
 use Rattle.standard.specs.Delivery.{Bytes, Made, result, refusal}
 use Rattle.standard.specs.Calls.{minimise}
-use Rattle.standard.specs.Table.{TableFault, tablesOf, check}
+use Rattle.standard.specs.Table.{TableFault, tablesOf, check, toMaximise}
 use Rattle.standard.specs.Make.{make}
 use Rattle.tsv.specs.Fields.{decimal, field, askedOf}
 use Rattle.lines.specs.Pieces.{pieceText, pieceUsed}
@@ -38,30 +38,30 @@ keyRow A L x = answerText (numberOf (madeKey A L x)) x (keptOf (madeKey A L x))
 unfoldable pub keptText : ℕ → Bytes → Bytes
 keptText number form = cond (eqb number 0) form (45 ∷ [])
 
--- What a call gives back: number, table and place of the tables' refusal, how many bytes of the piece were answered, the
+-- What a call gives back: number, place and table of the tables' refusal, how many bytes of the piece were answered, the
 -- length of their rows, and all of the lent output afterwards.
 pub record Answer : Type 0 where
   pub number : ℕ
-  pub table : ℕ
   pub place : ℕ
+  pub table : ℕ
   pub used : ℕ
   pub len : ℕ
   pub output : Bytes
 
 -- the rows at the front of the output; the bytes behind them stay
 unfoldable pub rowsGiven : ℕ → Bytes → Bytes → Answer
-rowsGiven used text out = record { number = 0; table = 0; place = 0; used = used; len = length text; output = text ++ drop (length text) out }
+rowsGiven used text out = record { number = 0; place = 0; table = 0; used = used; len = length text; output = text ++ drop (length text) out }
 
--- 01, A set of examples: a bad table gives its number, table and place, and no rows.
+-- 01, A set of examples: a bad table gives its number, place and table, and no rows.
 unfoldable pub afterTables : Option TableFault → Answer → Bytes → Answer
 afterTables none a out = a
-afterTables (some f) a out = record { number = f .fault .number; table = f .table; place = f .fault .place; used = 0; len = 0; output = out }
+afterTables (some f) a out = record { number = f .fault .number; place = f .fault .place; table = f .table; used = 0; len = 0; output = out }
 
 -- Rows are written as long as 540 bytes are free before each.
 unfoldable pub keysGiven : Bytes → Bytes → Bytes → Bytes → Answer
 keysGiven A L x out =
-    afterTables (check true false A L []) (rowsGiven (pieceUsed (keyRow A L) 540 (length out) x) (pieceText (keyRow A L) 540 (length out) x) out) out
+    afterTables (check toMaximise A L []) (rowsGiven (pieceUsed (keyRow A L) 540 (length out) x) (pieceText (keyRow A L) 540 (length out) x) out) out
 
 -- an answer of the code, with the output afterwards
 unfoldable pub keyedIs : Keyed → Bytes → Answer
-keyedIs k out = record { number = k .number; table = k .table; place = k .place; used = k .used; len = k .len; output = out }
+keyedIs k out = record { number = k .number; place = k .place; table = k .table; used = k .used; len = k .len; output = out }

@@ -1,31 +1,30 @@
-// The rows of the program `keys`: of each line what was asked, the number and the minimised form. The tables are tested
-// once for a whole piece of lines.
-use operations::delivery::refused_table;
-use tsv::put;
-use tsv::put_asked;
-use tsv::put_number;
-use operations::complete::form_hinted;
-use operations::complete::answer;
-use lines::next_line;
+// Public, over lines. The rows of the program `keys`: of each line what was asked, the number and the minimised form.
+// The tables are tested once for a whole piece of lines.
 use byte_string::end_of;
+use lines::next_line;
+use operations::complete::answer;
+use operations::complete::form_hinted;
 use table::hints::fill_hints;
 use table::hints::many;
 use table_check::Verdict;
 use table_check::check_likely;
+use tsv::put;
+use tsv::put_asked;
+use tsv::put_number;
 ghost use mathlib.Core.Path.{_≡_};
 ghost use Prim.Native.Nat.{_+_, _≤_};
 ghost use lib.ListN.{length, take};
-ghost use lib.Seq.{sets};
-ghost use Rattle.tsv.specs.Fields.{field, askedOf};
+ghost use Rattle.byte_string.specs.Strings.{WritesWithin};
 ghost use Rattle.table.specs.Hints.{Hinted};
 ghost use Rattle.operations.specs.Both.{TestedBoth};
+ghost use Rattle.tsv.specs.Fields.{field, askedOf};
 ghost use Rattle.key_rows.specs.Keys.{answerText, keptText, keyRow, keysGiven, keyedIs};
 
-// Number, table and place of the tables' refusal; how many bytes of the piece were answered, and the length of their rows.
+// Number, place and table of the tables' refusal; how many bytes of the piece were answered, and the length of their rows.
 pub struct Keyed {
     pub number: u8,
-    pub table: u8,
     pub place: usize,
+    pub table: u8,
     pub used: usize,
     pub len: usize,
 }
@@ -40,7 +39,8 @@ fn form_buffer() -> [u8; 256]
 // What is kept: the form, or `-`.
 fn put_kept(number: u8, form: &[u8], len: usize, out: &mut [u8], at: usize) -> usize
     requires { ⌜ (len ≤ 255) × (len ≤ length (now form)) × (at + 256 ≤ length (now out)) ⌝ }
-    ensures { λ r. ⌜ (r ≡ at + length (field (keptText number (take len (now (form .entry)))) 10)) × (now (out .exit) ≡ sets (now (out .entry)) at (field (keptText number (take len (now (form .entry)))) 10)) × (r ≤ at + 256) ⌝ }
+    ensures { λ r. let out′ = now (out .exit) in let out = now (out .entry) in let form = now (form .entry) in
+        ⌜ WritesWithin (at + 256) out at (field (keptText number (take len form)) 10) r out′ ⌝ }
 {
     if number == 0 {
         return put(&form[..len], b'\n', out, at);
@@ -51,7 +51,8 @@ fn put_kept(number: u8, form: &[u8], len: usize, out: &mut [u8], at: usize) -> u
 // The row of an answer.
 fn put_answer(line: &[u8], number: u8, form: &[u8], len: usize, out: &mut [u8], at: usize) -> usize
     requires { ⌜ (length (askedOf number (now line)) ≤ 255) × (len ≤ 255) × (len ≤ length (now form)) × (at + 540 ≤ length (now out)) ⌝ }
-    ensures { λ r. ⌜ (r ≡ at + length (answerText number (now (line .entry)) (keptText number (take len (now (form .entry)))))) × (now (out .exit) ≡ sets (now (out .entry)) at (answerText number (now (line .entry)) (keptText number (take len (now (form .entry)))))) × (r ≤ at + 540) ⌝ }
+    ensures { λ r. let out′ = now (out .exit) in let out = now (out .entry) in let line = now (line .entry) in let form = now (form .entry) in
+        ⌜ WritesWithin (at + 540) out at (answerText number line (keptText number (take len form))) r out′ ⌝ }
 {
     let p = put_asked(number, line, out, at);
     let q = put_number(number as usize, b'\t', out, p);
@@ -69,8 +70,12 @@ fn put_row(
     out: &mut [u8],
     at: usize,
 ) -> usize
-    requires { ⌜ TestedBoth (now aliases) (now likely) × Hinted (now aliases) (now «alias_hints») × Hinted (now likely) (now «likely_hints») × (length (now form) ≡ 256) × (at + 540 ≤ length (now out)) ⌝ }
-    ensures { λ r. ⌜ (r ≡ at + length (keyRow (now (aliases .entry)) (now (likely .entry)) (now (line .entry)))) × (now (out .exit) ≡ sets (now (out .entry)) at (keyRow (now (aliases .entry)) (now (likely .entry)) (now (line .entry)))) × (r ≤ at + 540) ⌝ }
+    requires { let aliases = now aliases in let likely = now likely in
+        ⌜ TestedBoth aliases likely × Hinted aliases (now «alias_hints») × Hinted likely (now «likely_hints») × (length (now form) ≡ 256)
+        × (at + 540 ≤ length (now out)) ⌝ }
+    ensures { λ r. let out′ = now (out .exit) in let out = now (out .entry) in let aliases = now (aliases .entry) in
+        let likely = now (likely .entry) in let line = now (line .entry) in
+        ⌜ WritesWithin (at + 540) out at (keyRow aliases likely line) r out′ ⌝ }
 {
     let a = answer(form_hinted(true, line, aliases, alias_hints, likely, likely_hints, form));
     put_answer(line, a.number, form, a.len, out, at)
@@ -86,8 +91,11 @@ fn rows_hinted(
     form: &mut [u8],
     out: &mut [u8],
 ) -> Keyed
-    requires { ⌜ TestedBoth (now aliases) (now likely) × Hinted (now aliases) (now «alias_hints») × Hinted (now likely) (now «likely_hints») × (length (now form) ≡ 256) ⌝ }
-    ensures { λ r. ⌜ (keyedIs r (now (out .exit)) ≡ keysGiven (now (aliases .entry)) (now (likely .entry)) (now (piece .entry)) (now (out .entry))) × (r .used ≤ length (now (piece .entry))) × (r .len ≤ length (now (out .entry))) ⌝ }
+    requires { let aliases = now aliases in let likely = now likely in
+        ⌜ TestedBoth aliases likely × Hinted aliases (now «alias_hints») × Hinted likely (now «likely_hints») × (length (now form) ≡ 256) ⌝ }
+    ensures { λ r. let out′ = now (out .exit) in let aliases = now (aliases .entry) in let likely = now (likely .entry) in
+        let piece = now (piece .entry) in let out = now (out .entry) in
+        ⌜ (keyedIs r out′ ≡ keysGiven aliases likely piece out) × (r .used ≤ length piece) × (r .len ≤ length out) ⌝ }
 {
     let mut at = 0;
     let mut len = 0;
@@ -116,8 +124,8 @@ fn rows_hinted(
     }
     Keyed {
         number: 0,
-        table: 0,
         place: 0,
+        table: 0,
         used: at,
         len,
     }
@@ -126,7 +134,9 @@ fn rows_hinted(
 // The rows over tables that passed the check: their hints and the room for a form are made once for all lines.
 fn rows_tested(piece: &[u8], aliases: &[u8], likely: &[u8], out: &mut [u8]) -> Keyed
     requires { ⌜ TestedBoth (now aliases) (now likely) ⌝ }
-    ensures { λ r. ⌜ (keyedIs r (now (out .exit)) ≡ keysGiven (now (aliases .entry)) (now (likely .entry)) (now (piece .entry)) (now (out .entry))) × (r .used ≤ length (now (piece .entry))) × (r .len ≤ length (now (out .entry))) ⌝ }
+    ensures { λ r. let out′ = now (out .exit) in let aliases = now (aliases .entry) in let likely = now (likely .entry) in
+        let piece = now (piece .entry) in let out = now (out .entry) in
+        ⌜ (keyedIs r out′ ≡ keysGiven aliases likely piece out) × (r .used ≤ length piece) × (r .len ≤ length out) ⌝ }
 {
     let mut a = many();
     fill_hints(aliases, &mut a);
@@ -137,20 +147,21 @@ fn rows_tested(piece: &[u8], aliases: &[u8], likely: &[u8], out: &mut [u8]) -> K
 }
 
 // Tests the tables, then writes the rows of the lines of a piece at the front of out, as long as 540 bytes are free before
-// each. A bad table gives its number, table and place, and no rows.
+// each. A bad table gives its number, place and table, and no rows.
 pub fn rows_of(piece: &[u8], aliases: &[u8], likely: &[u8], out: &mut [u8]) -> Keyed
-    ensures { λ r. ⌜ (keyedIs r (now (out .exit)) ≡ keysGiven (now (aliases .entry)) (now (likely .entry)) (now (piece .entry)) (now (out .entry))) × (r .used ≤ length (now (piece .entry))) × (r .len ≤ length (now (out .entry))) ⌝ }
+    ensures { λ r. let out′ = now (out .exit) in let aliases = now (aliases .entry) in let likely = now (likely .entry) in
+        let piece = now (piece .entry) in let out = now (out .entry) in
+        ⌜ (keyedIs r out′ ≡ keysGiven aliases likely piece out) × (r .used ≤ length piece) × (r .len ≤ length out) ⌝ }
 {
     let v = check_likely(aliases, likely);
-    let Verdict::Good = v else {
-        let a = refused_table(v);
+    if let Verdict::Bad(number, place, table) = v {
         return Keyed {
-            number: a.number,
-            table: a.table,
-            place: a.place,
+            number,
+            place,
+            table,
             used: 0,
             len: 0,
         };
-    };
+    }
     rows_tested(piece, aliases, likely, out)
 }

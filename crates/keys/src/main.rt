@@ -3,42 +3,88 @@
 // are none. A bad table gives, after the header, its line and nothing else.
 use libc::STDOUT_FILENO;
 use program_io::input;
+use program_io::input::Input;
 use program_io::load;
+use std::num::wrapping_add_usize;
 ghost use mathlib.Core.Path.{_≡_};
-ghost use Prim.Native.Nat.{_+_, _≤_};
+ghost use mathlib.Core.List.{List};
+ghost use Prim.Native.Nat.{_≤_};
 ghost use lib.ListN.{length};
+ghost use Rattle.lines.specs.Squeeze.{Bytes};
+ghost use Rattle.program_io.specs.Handed.{Room};
+ghost use Rattle.keys.specs.Answered.{Prints, Answers};
 
-// Prints the rows of the lines of a piece, as many at a time as have room in out; or the line of a bad table, and then
-// answers no. A bad table shows with an empty piece too.
-fn print_rows(piece: &[u8], aliases: &[u8], likely: &[u8], out: &mut [u8]) -> bool
+// How many bytes of rows were printed, modulo 2^64; or the number of a bad table, whose line was.
+struct Printed {
+    number: u8,
+    len: usize,
+}
+
+// The same of a run, with the input as it was read.
+struct Answered {
+    number: u8,
+    len: usize,
+    input: Input,
+}
+
+// Prints the rows of the lines of a piece, as many at a time as have room in out; or the line of a bad table. A bad table
+// shows with an empty piece too.
+fn print_rows(piece: &[u8], aliases: &[u8], likely: &[u8], out: &mut [u8]) -> Printed
     requires { ⌜ 540 ≤ length (now out) ⌝ }
+    ensures { λ r. ⌜ Prints (now (aliases .entry)) (now (likely .entry)) (now (piece .entry)) r ⌝ }
 {
     let mut from: usize = 0;
+    let mut len: usize = 0;
     loop {
         let k = key_rows::rows_of(&piece[from..], aliases, likely, out);
         if k.number != 0 {
-            program_io::print_table(k.number, k.table, k.place);
-            return false;
+            program_io::print_table(k.number, k.place, k.table);
+            return Printed {
+                number: k.number,
+                len,
+            };
         }
-        let len = k.len;
-        io::write_all(STDOUT_FILENO, &out[..len]);
+        let more = k.len;
+        io::write_all(STDOUT_FILENO, &out[..more]);
+        len = wrapping_add_usize(len, more);
         from += k.used;
         if from == piece.len() {
-            return true;
+            return Printed { number: 0, len };
         }
     }
 }
 
-// Reads to the end of the input.
-fn answer_input(aliases: &[u8], likely: &[u8], block: &mut [u8], piece: &mut [u8], out: &mut [u8])
-    requires { ⌜ (260 + length (now block) ≤ length (now piece)) × (540 ≤ length (now out)) ⌝ }
+// Reads to the end of the input, or to the first piece where a table is bad.
+fn answer_input(
+    aliases: &[u8],
+    likely: &[u8],
+    block: &mut [u8],
+    piece: &mut [u8],
+    out: &mut [u8],
+) -> Answered
+    requires { ⌜ Room (length (now block)) (length (now piece)) × (540 ≤ length (now out)) ⌝ }
+    ensures { λ r. ⌜ ((bs : List Bytes) × Answers (now (aliases .entry)) (now (likely .entry)) bs r) ⌝ }
 {
-    let mut i = input::begin();
-    while i.turns > 0 {
-        i = input::next(i, block, piece);
-        let whole = i.whole;
-        if !print_rows(&piece[..whole], aliases, likely, out) {
-            return;
+    let mut input = input::begin();
+    let mut len: usize = 0;
+    loop {
+        input = input::next(input, block, piece);
+        let whole = input::whole(input);
+        let p = print_rows(&piece[..whole], aliases, likely, out);
+        len = wrapping_add_usize(len, p.len);
+        if p.number != 0 {
+            return Answered {
+                number: p.number,
+                len,
+                input,
+            };
+        }
+        if input::is_ended(input) {
+            return Answered {
+                number: 0,
+                len,
+                input,
+            };
         }
     }
 }

@@ -10,12 +10,12 @@ use lib.Dec.{leb}
 use lib.ListN.{length, take, drop, length-append}
 use lib.Seq.{sets, sets-eq}
 use Rattle.standard.specs.Delivery.{Bytes, Made, refusal, form, Given, given}
-use Rattle.standard.proofs.Bytes.{bool-cases}
+use Rattle.standard.proofs.General.{bool-cases}
 use Rattle.byte_string.proofs.Stores.{sets-append}
 use Rattle.standard.specs.Tag.{pick}
 use Rattle.likely.specs.Kept.{keptParts}
-use Rattle.likely.specs.declared.three.Kept.{Kept}
-use Rattle.likely.specs.declared.three.Kept.the-variants.{Neither, Region, Script, Both}
+use Rattle.likely.specs.declared.lsr.Kept.{Kept}
+use Rattle.likely.specs.declared.lsr.Kept.the-variants.{Neither, Region, Script, Both}
 use Rattle.likely.specs.Parts.{Parts, parts3, joinedParts, knownPart, knownParts, cutAt, cutParts, languageOf, overParts, filledBy, fillParts, minimalParts, Ready}
 use Rattle.likely.proofs.Lookups.{language-cut, script-cut, region-cut}
 use Rattle.likely.specs.declared.forms.Outcome.the-variants.{Done, NoRow, Long, Short}

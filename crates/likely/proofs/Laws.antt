@@ -8,15 +8,15 @@ use native.Mathlib.Omega.{arith}
 use lib.ListN.{length, drop}
 use lib.Seq.{drop-append-add, take-append-seam, drop-append-seam}
 use Rattle.standard.specs.Tag.{Tag, order, same, pick, present, replace}
-use Rattle.standard.specs.Identifier.{Three, three, und, zzzz, zz, Tables, without, withoutUnknown, complete, orElse, row, over, overRow, maximalThree, trial, sameThree, hasThree, minimalThree, Kept}
+use Rattle.standard.specs.Identifier.{Three, three, und, zzzz, zz, Tables, without, withoutUnknown, complete, orElse, likelyRow, over, overRow, maximalThree, trial, sameThree, hasThree, minimalThree, Kept}
 use Rattle.standard.specs.Reading.{optional, joined}
 use Rattle.standard.specs.Delivery.{Bytes}
-use Rattle.standard.specs.Table.{lookup, rows, parse, parsed, printThree, tablesOf, isThree, check}
+use Rattle.standard.specs.Table.{lookup, rows, parse, parsed, printThree, tablesOf, isThree, toCheck, check}
 use Rattle.standard.specs.Grammar.{title, upper, aScript}
 use Rattle.standard.proofs.Tags.{same-refl}
-use Rattle.standard.proofs.Core.{Full, kept-fixed}
+use Rattle.standard.proofs.Core.{Full, kept-fixed, row-forms}
 use Rattle.standard.proofs.Dashes.{NoDash, printed-dash}
-use Rattle.standard.proofs.Bytes.{clash, and-true, bool-cases}
+use Rattle.standard.proofs.General.{clash, and-true, bool-cases}
 use Rattle.standard.proofs.Shapes.{printed-language, printed-script}
 use Rattle.standard.proofs.Round.{printed-shown}
 use Rattle.standard.proofs.Table.{Passed, passed, three-shaped, three-printed, likely-value}
@@ -56,11 +56,11 @@ unfolding ledPart
 key-language l = key-three l [] [] ∙ append-nil l
 
 module _ (A L P : Bytes) where
-  pub row-parts : (t : Three) → row (tablesOf A L P) t ≡ parsed (rowValue L (partsOf t))
-  unfolding row rowValue shorterValue tablesOf partsOf
+  pub row-parts : (t : Three) → likelyRow (tablesOf A L P) t ≡ parsed (rowValue L (partsOf t))
+  unfolding rowValue shorterValue tablesOf partsOf
   row-parts t =
       let l = t .language in
-      rw (parsed-or, parsed-or, parsed-or, key-three l (t .script) (t .region), key-script l (t .script), key-region l (t .region), key-language l)
+      row-forms (tablesOf A L P) t ∙ rw (parsed-or, parsed-or, parsed-or, key-three l (t .script) (t .region), key-script l (t .script), key-region l (t .region), key-language l)
 
 same-led : (a b : Tag) → same (ledPart a) (ledPart b) ≡ same a b
 unfolding same order ledPart
@@ -145,7 +145,7 @@ unfoldable pub mapParts : Option Three → Option Parts
 mapParts none = none
 mapParts (some t) = some (partsOf t)
 
-module _ (A L P : Bytes) (pass : check true true A L P ≡ none) where
+module _ (A L P : Bytes) (pass : check toCheck A L P ≡ none) where
   abbrev T : Tables
   T = tablesOf A L P
 

@@ -14,12 +14,12 @@ use Rattle.standard.specs.Tag.{same, pick, present}
 use Rattle.standard.specs.Identifier.{und}
 use Rattle.standard.specs.Delivery.{Bytes}
 use Rattle.standard.specs.Table.{lookup, rows, located}
-use Rattle.standard.proofs.Bytes.{clash, and-true, bool-cases}
+use Rattle.standard.proofs.General.{clash, and-true, bool-cases}
 use Rattle.table.specs.Lines.{valueOf, valueOr, isFound}
 use Rattle.table.proofs.Lines.{value-located, found-located}
 use Rattle.byte_string.proofs.Stores.{sets-append}
 use Rattle.likely.specs.Kept.{keptParts}
-use Rattle.likely.specs.declared.three.Kept.the-variants.{Neither, Region, Script, Both}
+use Rattle.likely.specs.declared.lsr.Kept.the-variants.{Neither, Region, Script, Both}
 use Rattle.likely.specs.Parts.{Parts, Ready, dashFrom, dash, cutAt, cutParts, overParts, overValue, fillParts, filledBy, fitsValue, fitsParts, minimalParts, knownPart, languageOf, completeParts, parts3, orValue, shorterValue, rowValue}
 
 -- the walk to a '-'

@@ -1,8 +1,8 @@
 -- What the minimised form keeps of the maximised one. Assumes nothing.
 use mathlib.Core.List.{[]}
 use Rattle.likely.specs.Parts.{Parts, parts3}
-use Rattle.likely.specs.declared.three.Kept.{Kept}
-use Rattle.likely.specs.declared.three.Kept.the-variants.{Neither, Region, Script, Both}
+use Rattle.likely.specs.declared.lsr.Kept.{Kept}
+use Rattle.likely.specs.declared.lsr.Kept.the-variants.{Neither, Region, Script, Both}
 
 unfoldable pub keptParts : Kept → Parts → Parts
 keptParts Neither m = parts3 (m .language) [] []

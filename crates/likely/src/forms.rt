@@ -1,11 +1,11 @@
 // The maximised or minimised form, delivered: the three by parts, then the variants and extensions as they stand.
+use crate::lsr::Kept;
+use crate::lsr::cuts_of;
+use crate::lsr::minimal;
+use crate::lsr::row_for;
 use crate::parts::first_of;
 use crate::parts::known;
 use crate::parts::language_of;
-use crate::three::Kept;
-use crate::three::cuts_of;
-use crate::three::minimal;
-use crate::three::row_for;
 use byte_string::put;
 ghost use mathlib.Core.Path.{_≡_};
 ghost use Prim.Native.Nat.{_+_, _≤_};
@@ -49,8 +49,9 @@ fn length_of(language: &[u8], script: &[u8], region: &[u8], rest: &[u8]) -> usiz
 // Writes the parts at the front of the output, and gives their length.
 fn put_form(language: &[u8], script: &[u8], region: &[u8], rest: &[u8], out: &mut [u8]) -> usize
     requires { ⌜ length (now language) + length (now script) + length (now region) + length (now rest) ≤ length (now out) ⌝ }
-    ensures { λ r. ⌜ (r ≡ length (bytesOf (parts3 (now (language .entry)) (now (script .entry)) (now (region .entry))) (now (rest .entry))))
-        × (now (out .exit) ≡ sets (now (out .entry)) 0 (bytesOf (parts3 (now (language .entry)) (now (script .entry)) (now (region .entry))) (now (rest .entry)))) ⌝ }
+    ensures { λ r. let out′ = now (out .exit) in let language = now (language .entry) in let script = now (script .entry) in
+        let region = now (region .entry) in let rest = now (rest .entry) in let out = now (out .entry) in
+        ⌜ (r ≡ length (bytesOf (parts3 language script region) rest)) × (out′ ≡ sets out 0 (bytesOf (parts3 language script region) rest)) ⌝ }
 {
     let a = put(language, out, 0);
     let b = put(script, out, a);
@@ -60,7 +61,9 @@ fn put_form(language: &[u8], script: &[u8], region: &[u8], rest: &[u8], out: &mu
 
 // Writes the form at the front of the lent output, or refuses.
 fn deliver(language: &[u8], script: &[u8], region: &[u8], rest: &[u8], out: &mut [u8]) -> Outcome
-    ensures { λ r. ⌜ givenBy r (now (out .exit)) ≡ given (madeForm (bytesOf (parts3 (now (language .entry)) (now (script .entry)) (now (region .entry))) (now (rest .entry)))) (now (out .entry)) ⌝ }
+    ensures { λ r. let out′ = now (out .exit) in let language = now (language .entry) in let script = now (script .entry) in
+        let region = now (region .entry) in let rest = now (rest .entry) in let out = now (out .entry) in
+        ⌜ givenBy r out′ ≡ given (madeForm (bytesOf (parts3 language script region) rest)) out ⌝ }
 {
     let n = length_of(language, script, region, rest);
     if 255 < n {
@@ -84,8 +87,10 @@ fn finish(
     hints: &[u16],
     out: &mut [u8],
 ) -> Outcome
-    ensures { λ r. ⌜ (Ready (now (likely .entry)) (now (hints .entry)) (parts3 (now (language .entry)) (now (script .entry)) (now (region .entry)))
-        → givenBy r (now (out .exit)) ≡ given (madeOf shorten (now (likely .entry)) (now (rest .entry)) (parts3 (now (language .entry)) (now (script .entry)) (now (region .entry)))) (now (out .entry))) ⌝ }
+    ensures { λ r. let out′ = now (out .exit) in let likely = now (likely .entry) in let hints = now (hints .entry) in
+        let language = now (language .entry) in let script = now (script .entry) in let region = now (region .entry) in
+        let rest = now (rest .entry) in let out = now (out .entry) in
+        ⌜ (Ready likely hints (parts3 language script region) → givenBy r out′ ≡ given (madeOf shorten likely rest (parts3 language script region)) out) ⌝ }
 {
     if !shorten {
         return deliver(language, script, region, rest, out);
@@ -114,8 +119,10 @@ pub fn form_by_parts<'a>(
     hints: &[u16],
     out: &mut [u8],
 ) -> Outcome
-    ensures { λ r. ⌜ (ReadyFor (now (likely .entry)) (now (hints .entry)) (parts3 (now (language .entry)) (now (script .entry)) (now (region .entry)))
-        → givenBy r (now (out .exit)) ≡ given (madeParts shorten (now (likely .entry)) (now (rest .entry)) (parts3 (now (language .entry)) (now (script .entry)) (now (region .entry)))) (now (out .entry))) ⌝ }
+    ensures { λ r. let out′ = now (out .exit) in let likely = now (likely .entry) in let hints = now (hints .entry) in
+        let language = now (language .entry) in let script = now (script .entry) in let region = now (region .entry) in
+        let rest = now (rest .entry) in let out = now (out .entry) in
+        ⌜ (ReadyFor likely hints (parts3 language script region) → givenBy r out′ ≡ given (madeParts shorten likely rest (parts3 language script region)) out) ⌝ }
 {
     let s = known(script, b"-Zzzz");
     let r = known(region, b"-ZZ");

@@ -5,7 +5,7 @@ ghost use Rattle.standard.specs.Tag.{same, pick};
 ghost use Rattle.likely.specs.Parts.{knownPart, dash, completeParts, languageOf};
 
 // The part, or none where it is this unknown one.
-pub fn known<'a>(part: &'a [u8], unknown: &[u8]) -> &'a [u8]
+pub(crate) fn known<'a>(part: &'a [u8], unknown: &[u8]) -> &'a [u8]
     ensures { λ r. ⌜ now r ≡ knownPart (now (unknown .entry)) (now (part .entry)) ⌝ }
 {
     if byte_string::same(part, unknown) {
@@ -15,7 +15,7 @@ pub fn known<'a>(part: &'a [u8], unknown: &[u8]) -> &'a [u8]
 }
 
 // The first part, or the other where there is none.
-pub fn first_of<'a>(first: &'a [u8], other: &'a [u8]) -> &'a [u8]
+pub(crate) fn first_of<'a>(first: &'a [u8], other: &'a [u8]) -> &'a [u8]
     ensures { λ r. ⌜ now r ≡ pick (now (first .entry)) (now (other .entry)) ⌝ }
 {
     if first.len() == 0 {
@@ -25,7 +25,7 @@ pub fn first_of<'a>(first: &'a [u8], other: &'a [u8]) -> &'a [u8]
 }
 
 // Is the first part, or the other where there is none, this one?
-pub fn first_is(first: &[u8], other: &[u8], part: &[u8]) -> bool
+pub(crate) fn first_is(first: &[u8], other: &[u8], part: &[u8]) -> bool
     ensures { λ r. ⌜ r ≡ same (pick (now (first .entry)) (now (other .entry))) (now (part .entry)) ⌝ }
 {
     if first.len() == 0 {
@@ -35,7 +35,7 @@ pub fn first_is(first: &[u8], other: &[u8], part: &[u8]) -> bool
 }
 
 // The language, or the other where it is `und`.
-pub fn language_of<'a>(language: &'a [u8], other: &'a [u8]) -> &'a [u8]
+pub(crate) fn language_of<'a>(language: &'a [u8], other: &'a [u8]) -> &'a [u8]
     ensures { λ r. ⌜ now r ≡ languageOf (now (language .entry)) (now (other .entry)) ⌝ }
 {
     if byte_string::same(language, b"und") {
@@ -45,7 +45,7 @@ pub fn language_of<'a>(language: &'a [u8], other: &'a [u8]) -> &'a [u8]
 }
 
 // Is nothing missing?
-pub fn is_complete(language: &[u8], script: &[u8], region: &[u8]) -> bool
+pub(crate) fn is_complete(language: &[u8], script: &[u8], region: &[u8]) -> bool
     ensures { λ r. ⌜ r ≡ completeParts (record { language = now (language .entry); script = now (script .entry); region = now (region .entry) }) ⌝ }
 {
     if byte_string::same(language, b"und") {
@@ -58,7 +58,7 @@ pub fn is_complete(language: &[u8], script: &[u8], region: &[u8]) -> bool
 }
 
 // The place of the first '-' at or after at, or the length; at itself where it lies behind the end.
-pub fn dash_from(v: &[u8], at: usize) -> usize
+pub(crate) fn dash_from(v: &[u8], at: usize) -> usize
     ensures { λ r. ⌜ r ≡ dash (now (v .entry)) at ⌝ }
 {
     let mut i = at;

@@ -4,8 +4,8 @@ ghost use mathlib.Core.Path.{_≡_};
 ghost use mathlib.Core.List.{_++_};
 ghost use Prim.Native.Nat.{_+_, _≤_};
 ghost use lib.ListN.{length};
-ghost use Rattle.standard.specs.Table.{lookup, rows};
 ghost use lib.Dec.{leb};
+ghost use Rattle.standard.specs.Table.{lookup, rows};
 ghost use Rattle.table.specs.Lines.{valueOr, isFound};
 ghost use Rattle.table.specs.Hints.{Indexed};
 ghost use Rattle.likely.specs.Parts.{Ready, parts3, shorterValue, rowValue};
@@ -36,8 +36,12 @@ fn find_key<'a>(
     found: &mut bool,
 ) -> &'a [u8]
     requires { ⌜ length (now language) + length (now script) + length (now region) ≤ 32 ⌝ }
-    ensures { λ r. ⌜ (Indexed (now (likely .entry)) (now (hints .entry)) → now r ≡ valueOr (lookup (rows (now (likely .entry))) (now (language .entry) ++ (now (script .entry) ++ now (region .entry))))) ⌝ }
-    ensures { λ _. ⌜ (Indexed (now (likely .entry)) (now (hints .entry)) → now (found .exit) ≡ isFound (lookup (rows (now (likely .entry))) (now (language .entry) ++ (now (script .entry) ++ now (region .entry))))) ⌝ }
+    ensures { λ r. let likely = now (likely .entry) in let hints = now (hints .entry) in let language = now (language .entry) in
+        let script = now (script .entry) in let region = now (region .entry) in
+        ⌜ (Indexed likely hints → now r ≡ valueOr (lookup (rows likely) (language ++ (script ++ region)))) ⌝ }
+    ensures { λ _. let found′ = now (found .exit) in let likely = now (likely .entry) in let hints = now (hints .entry) in
+        let language = now (language .entry) in let script = now (script .entry) in let region = now (region .entry) in
+        ⌜ (Indexed likely hints → found′ ≡ isFound (lookup (rows likely) (language ++ (script ++ region)))) ⌝ }
 {
     let mut key = [0u8; 32];
     let a = put(language, &mut key, 0);
@@ -47,7 +51,7 @@ fn find_key<'a>(
 }
 
 // The same for parts of any length.
-pub fn find<'a>(
+pub(crate) fn find<'a>(
     likely: &'a [u8],
     hints: &[u16],
     language: &[u8],
@@ -55,8 +59,12 @@ pub fn find<'a>(
     region: &[u8],
     found: &mut bool,
 ) -> &'a [u8]
-    ensures { λ r. ⌜ (Ready (now (likely .entry)) (now (hints .entry)) (parts3 (now (language .entry)) (now (script .entry)) (now (region .entry))) → now r ≡ valueOr (lookup (rows (now (likely .entry))) (now (language .entry) ++ (now (script .entry) ++ now (region .entry))))) ⌝ }
-    ensures { λ _. ⌜ (Ready (now (likely .entry)) (now (hints .entry)) (parts3 (now (language .entry)) (now (script .entry)) (now (region .entry))) → now (found .exit) ≡ isFound (lookup (rows (now (likely .entry))) (now (language .entry) ++ (now (script .entry) ++ now (region .entry))))) ⌝ }
+    ensures { λ r. let likely = now (likely .entry) in let hints = now (hints .entry) in let language = now (language .entry) in
+        let script = now (script .entry) in let region = now (region .entry) in
+        ⌜ (Ready likely hints (parts3 language script region) → now r ≡ valueOr (lookup (rows likely) (language ++ (script ++ region)))) ⌝ }
+    ensures { λ _. let found′ = now (found .exit) in let likely = now (likely .entry) in let hints = now (hints .entry) in
+        let language = now (language .entry) in let script = now (script .entry) in let region = now (region .entry) in
+        ⌜ (Ready likely hints (parts3 language script region) → found′ ≡ isFound (lookup (rows likely) (language ++ (script ++ region)))) ⌝ }
 {
     if has_room(language, script, region) {
         return find_key(likely, hints, language, script, region, found);
@@ -74,8 +82,12 @@ fn find_shorter<'a>(
     region: &[u8],
     found: &mut bool,
 ) -> &'a [u8]
-    ensures { λ r. ⌜ (Ready (now (likely .entry)) (now (hints .entry)) (parts3 (now (language .entry)) (now (script .entry)) (now (region .entry))) → now r ≡ valueOr (shorterValue (now (likely .entry)) (parts3 (now (language .entry)) (now (script .entry)) (now (region .entry))))) ⌝ }
-    ensures { λ _. ⌜ (Ready (now (likely .entry)) (now (hints .entry)) (parts3 (now (language .entry)) (now (script .entry)) (now (region .entry))) → now (found .exit) ≡ isFound (shorterValue (now (likely .entry)) (parts3 (now (language .entry)) (now (script .entry)) (now (region .entry))))) ⌝ }
+    ensures { λ r. let likely = now (likely .entry) in let hints = now (hints .entry) in let language = now (language .entry) in
+        let script = now (script .entry) in let region = now (region .entry) in
+        ⌜ (Ready likely hints (parts3 language script region) → now r ≡ valueOr (shorterValue likely (parts3 language script region))) ⌝ }
+    ensures { λ _. let found′ = now (found .exit) in let likely = now (likely .entry) in let hints = now (hints .entry) in
+        let language = now (language .entry) in let script = now (script .entry) in let region = now (region .entry) in
+        ⌜ (Ready likely hints (parts3 language script region) → found′ ≡ isFound (shorterValue likely (parts3 language script region))) ⌝ }
 {
     let none = &language[..0];
     let v = find(likely, hints, language, script, none, found);
@@ -93,7 +105,7 @@ fn find_shorter<'a>(
 
 // The value of the first row for the parts, as a part of the lent table. Where script or region is missing, the key of
 // the language alone is all that is left to try.
-pub fn find_row<'a>(
+pub(crate) fn find_row<'a>(
     likely: &'a [u8],
     hints: &[u16],
     language: &[u8],
@@ -101,8 +113,12 @@ pub fn find_row<'a>(
     region: &[u8],
     found: &mut bool,
 ) -> &'a [u8]
-    ensures { λ r. ⌜ (Ready (now (likely .entry)) (now (hints .entry)) (parts3 (now (language .entry)) (now (script .entry)) (now (region .entry))) → now r ≡ valueOr (rowValue (now (likely .entry)) (parts3 (now (language .entry)) (now (script .entry)) (now (region .entry))))) ⌝ }
-    ensures { λ _. ⌜ (Ready (now (likely .entry)) (now (hints .entry)) (parts3 (now (language .entry)) (now (script .entry)) (now (region .entry))) → now (found .exit) ≡ isFound (rowValue (now (likely .entry)) (parts3 (now (language .entry)) (now (script .entry)) (now (region .entry))))) ⌝ }
+    ensures { λ r. let likely = now (likely .entry) in let hints = now (hints .entry) in let language = now (language .entry) in
+        let script = now (script .entry) in let region = now (region .entry) in
+        ⌜ (Ready likely hints (parts3 language script region) → now r ≡ valueOr (rowValue likely (parts3 language script region))) ⌝ }
+    ensures { λ _. let found′ = now (found .exit) in let likely = now (likely .entry) in let hints = now (hints .entry) in
+        let language = now (language .entry) in let script = now (script .entry) in let region = now (region .entry) in
+        ⌜ (Ready likely hints (parts3 language script region) → found′ ≡ isFound (rowValue likely (parts3 language script region))) ⌝ }
 {
     let v = find(likely, hints, language, script, region, found);
     let there = *found;

@@ -1,13 +1,15 @@
 -- Laws of the line reader between two blocks of input. Assumes nothing.
 use mathlib.Core.Path.{_≡_, refl, sym, ap, ap₂, _∙_}
 use mathlib.Core.List.{List, [], _∷_, _++_, append-assoc, append-nil}
-use Prim.Native.Nat.{ℕ, _+_, _-_, _≤_}
+use Prim.Native.Nat.{ℕ, _+_, _-_, _≤_, _<_}
 use native.Mathlib.Omega.{arith}
 use lib.ListN.{length, take, drop, length-append, length-drop}
-use lib.Seq.{sets, sets-eq, take-at, take-append-le, drop-append-le, length-sets, length-take-le}
+use lib.Seq.{sets, sets-eq, take-at, take-append-le, drop-append-le, length-take-le}
 use Rattle.byte_string.proofs.Stores.{written}
 use Rattle.table.specs.Lines.{lines}
-use Rattle.lines.specs.Squeeze.{Bytes, squeezed, runAfter, takenIn, wholeLength, handedOver, unfinished, allLines, together, Carries}
+use Rattle.lines.specs.declared.Taken.{Taken}
+use Rattle.lines.specs.Squeeze.{Bytes, squeezed, runAfter, takenIn, wholeLength, handedOver, unfinished, handed, allLines, together}
+use Rattle.lines.specs.Reader.{Placed, Carries, HandsOver}
 
 -- One block more.
 over-more : (u : Bytes) (bs : List Bytes) (b : Bytes) → handedOver u (bs ++ (b ∷ [])) ≡ handedOver u bs ++ (take (wholeLength (unfinished u bs) b) (takenIn (unfinished u bs) b) ∷ [])
@@ -32,61 +34,66 @@ all-more [] x = append-nil (lines x)
 all-more (y ∷ xs) x = ap (λ (z : List Bytes). lines y ++ z) (all-more xs x) ∙ sym (append-assoc (lines y) (allLines xs) (lines x))
 
 -- Nothing was read yet.
-pub carried-start : (piece : Bytes) → Carries [] piece 0
-unfolding unfinished
-carried-start piece = record { few = omega arith; fits = omega arith; line = refl }
+pub carried-start : (t : Taken) (piece : Bytes) → t .whole ≡ 0 → t .end ≡ 0 → Carries [] t piece
+unfolding Carries unfinished
+carried-start t piece w e = let z : t .end - t .whole ≡ 0 = omega arith in rw z refl
 
--- A block taken in behind the unfinished line.
-module _ (bs : List Bytes) (piece b : Bytes) (kept : ℕ) (r : Carries bs piece kept) (piece₁ : Bytes) (whole end : ℕ)
-    (e : end ≡ kept + length (squeezed kept b)) (w : whole + runAfter kept b ≡ end) (p : piece₁ ≡ sets piece kept (squeezed kept b)) (h : end ≤ length piece) where
-  u : Bytes
-  u = unfinished [] bs
+-- The unfinished line u moved to the front of the piece.
+module _ (piece piece₁ : Bytes) (t : Taken) (kept : ℕ) (p : Placed t (length piece)) (k : kept ≡ t .end - t .whole) (q : piece₁ ≡ sets piece 0 (take (t .end - t .whole) (drop (t .whole) piece))) where
+  pub front-line : take kept piece₁ ≡ take (t .end - t .whole) (drop (t .whole) piece)
+  front-line =
+      let z = length-take-le (t .end - t .whole) (drop (t .whole) piece) (omega (arith, length-drop (t .whole) piece, p .within)) in
+      ap₂ take (k ∙ sym z) q ∙ written piece (take (t .end - t .whole) (drop (t .whole) piece)) (omega (arith, p .within))
 
+-- A block b taken in behind the unfinished line u at the front.
+module _ (u piece b : Bytes) (kept : ℕ) (fits : kept ≤ length piece) (line : take kept piece ≡ u) (piece₁ : Bytes) (r : Taken)
+    (e : r .end ≡ kept + length (squeezed kept b)) (w : r .whole + runAfter kept b ≡ r .end) (p : piece₁ ≡ sets piece kept (squeezed kept b)) (h : r .end ≤ length piece) where
   u-length : length u ≡ kept
-  unfolding u
-  u-length = ap length (sym (r .line)) ∙ length-take-le kept piece (r .fits)
+  u-length = ap length (sym line) ∙ length-take-le kept piece fits
 
   taken : takenIn u b ≡ take kept piece ++ squeezed kept b
-  unfolding u takenIn
-  taken = ap₂ (λ (x : Bytes) (n : ℕ). x ++ squeezed n b) (sym (r .line)) u-length
+  unfolding takenIn
+  taken = ap₂ (λ (x : Bytes) (n : ℕ). x ++ squeezed n b) (sym line) u-length
 
-  taken-length : length (takenIn u b) ≡ end
-  taken-length = ap length taken ∙ length-append (take kept piece) (squeezed kept b) ∙ (let t = length-take-le kept piece (r .fits) in omega arith)
+  taken-length : length (takenIn u b) ≡ r .end
+  taken-length = ap length taken ∙ length-append (take kept piece) (squeezed kept b) ∙ (let t = length-take-le kept piece fits in omega arith)
 
-  whole-is : whole ≡ wholeLength u b
+  whole-is : r .whole ≡ wholeLength u b
   unfolding wholeLength
   whole-is = let t = taken-length in let k : runAfter (length u) b ≡ runAfter kept b = ap (λ (n : ℕ). runAfter n b) u-length in omega arith
 
-  bytes : piece₁ ≡ takenIn u b ++ drop end piece
+  bytes : piece₁ ≡ takenIn u b ++ drop (r .end) piece
   bytes =
       p ∙ sets-eq (squeezed kept b) piece kept (omega arith)
       ∙ ap₂ (λ (x : Bytes) (n : ℕ). x ++ drop n piece) (sym taken) (sym e)
 
-  -- the lines of the whole part are those of one piece more
-  pub carried-handed : allLines (handedOver [] (bs ++ (b ∷ []))) ≡ allLines (handedOver [] bs) ++ lines (take whole piece₁)
-  unfolding u
-  carried-handed =
-      ap allLines (over-more [] bs b) ∙ all-more (handedOver [] bs) (take (wholeLength u b) (takenIn u b))
-      ∙ ap (λ (x : Bytes). allLines (handedOver [] bs) ++ lines x) (ap (λ (n : ℕ). take n (takenIn u b)) (sym whole-is) ∙ sym (ap (take whole) bytes ∙ take-append-le whole (takenIn u b) (drop end piece) (let t = taken-length in omega arith)))
+  -- at the front stand its whole lines
+  whole-lines : take (r .whole) piece₁ ≡ take (wholeLength u b) (takenIn u b)
+  whole-lines =
+      ap (take (r .whole)) bytes ∙ take-append-le (r .whole) (takenIn u b) (drop (r .end) piece) (let t = taken-length in omega arith)
+      ∙ ap (λ (n : ℕ). take n (takenIn u b)) whole-is
 
-  -- what is behind it is the unfinished line
-  rest : take (end - whole) (drop whole piece₁) ≡ unfinished [] (bs ++ (b ∷ []))
-  unfolding u
+  -- and behind them the unfinished one
+  rest : take (r .end - r .whole) (drop (r .whole) piece₁) ≡ drop (wholeLength u b) (takenIn u b)
   rest =
       let t = taken-length in
-      ap (λ (x : Bytes). take (end - whole) (drop whole x)) bytes ∙ ap (take (end - whole)) (drop-append-le whole (takenIn u b) (drop end piece) (omega arith))
-      ∙ take-at (drop whole (takenIn u b)) (drop end piece) (end - whole) (let d = length-drop whole (takenIn u b) in omega arith)
-      ∙ ap (λ (n : ℕ). drop n (takenIn u b)) whole-is ∙ sym (unfinished-more [] bs b)
+      ap (λ (x : Bytes). take (r .end - r .whole) (drop (r .whole) x)) bytes ∙ ap (take (r .end - r .whole)) (drop-append-le (r .whole) (takenIn u b) (drop (r .end) piece) (omega arith))
+      ∙ take-at (drop (r .whole) (takenIn u b)) (drop (r .end) piece) (r .end - r .whole) (let d = length-drop (r .whole) (takenIn u b) in omega arith)
+      ∙ ap (λ (n : ℕ). drop n (takenIn u b)) whole-is
 
-  -- which is moved to the front
-  pub carried-more : (piece₂ : Bytes) (left : ℕ) → end ≤ whole + 260 → left ≡ end - whole → piece₂ ≡ sets piece₁ 0 (take (end - whole) (drop whole piece₁)) → Carries (bs ++ (b ∷ [])) piece₂ left
-  carried-more piece₂ left few k q =
-      let n : length piece₁ ≡ length piece = ap length p ∙ length-sets piece kept (squeezed kept b) in
-      let d = length-drop whole piece₁ in
-      let z = length-take-le (end - whole) (drop whole piece₁) (omega arith) in
-      let m : length piece₂ ≡ length piece₁ = ap length q ∙ length-sets piece₁ 0 (take (end - whole) (drop whole piece₁)) in
-      record {
-        few = omega arith;
-        fits = omega arith;
-        line = ap₂ take (k ∙ sym z) q ∙ written piece₁ (take (end - whole) (drop whole piece₁)) (omega arith) ∙ rest;
-      }
+  pub hands-more : (bs : List Bytes) → unfinished [] bs ≡ u → 0 < length b → HandsOver bs b r piece₁
+  unfolding Carries
+  hands-more bs z n = record {
+    more = λ _. over-more [] bs b ∙ ap (λ (x : Bytes). handedOver [] bs ++ (x ∷ [])) (ap (λ (v : Bytes). take (wholeLength v b) (takenIn v b)) z ∙ sym whole-lines);
+    carried = λ _. rest ∙ sym (unfinished-more [] bs b ∙ ap (λ (v : Bytes). drop (wholeLength v b) (takenIn v b)) z);
+    last = λ m. absurd (omega arith);
+  }
+
+-- The end of the input.
+pub hands-last : (bs : List Bytes) (b piece : Bytes) (r : Taken) → take (r .whole) piece ≡ unfinished [] bs → length b ≡ 0 → HandsOver bs b r piece
+unfolding handed
+hands-last bs b piece r l z = record {
+  more = λ n. absurd (omega arith);
+  carried = λ n. absurd (omega arith);
+  last = λ _. ap (λ (x : Bytes). handedOver [] bs ++ (x ∷ [])) (sym l);
+}

@@ -11,9 +11,8 @@ use lib.ListN.{length, take, drop, getD, set, length-append, length-drop, drop-o
 use lib.Seq.{sets, take-all, take-at, drop-at, drop-cons, length-sets, length-take-le, getD-drop}
 use borrow.Author.Tests.{eq-eqb, ne-eqb, lt-ltb, le-ltb, eqb-true, eqb-false}
 use Rattle.standard.specs.Tag.{onto}
-use Rattle.standard.proofs.Bytes.{bool-cases}
+use Rattle.standard.proofs.General.{bool-cases, le-or-lt}
 use Rattle.byte_string.proofs.Stores.{sets-append, plain-next, sets-behind}
-use Rattle.subtag.proofs.Walk.{le-or-lt}
 use Rattle.table.specs.Lines.{lines}
 use Rattle.lines.specs.Squeeze.{Bytes, nextRun, kept, squeezed, runAfter, takenIn, wholeLength, handedOver, unfinished, handed, allLines, together}
 

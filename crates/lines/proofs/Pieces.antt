@@ -8,7 +8,7 @@ use lib.ListN.{length, take, drop, length-append, length-drop, drop-of-length-le
 use lib.Seq.{sets, drop-drop, length-sets, length-take-le, take-all}
 use borrow.Author.Tests.{le-leb, lt-leb}
 use Rattle.byte_string.proofs.Stores.{sets-append}
-use Rattle.subtag.proofs.Walk.{le-or-lt}
+use Rattle.standard.proofs.General.{le-or-lt}
 use Rattle.table.specs.Lines.{lines}
 use Rattle.byte_string.specs.Strings.{endOf}
 use Rattle.table.proofs.Lines.{lines-at}

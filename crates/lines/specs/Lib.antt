@@ -1,2 +1,3 @@
 pub mod Squeeze
+pub mod Reader
 pub mod Pieces

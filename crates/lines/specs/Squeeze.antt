@@ -1,9 +1,8 @@
 -- The line reader: of a line only the first 260 bytes are kept, and what is handed over piece by piece are whole lines.
 -- Assumes nothing.
-use mathlib.Core.Path.{_≡_}
 use mathlib.Core.Bool.{cond}
 use mathlib.Core.List.{List, [], _∷_, _++_}
-use Prim.Native.Nat.{ℕ, suc, _-_, _≤_}
+use Prim.Native.Nat.{ℕ, suc, _-_}
 use lib.Dec.{eqb, ltb}
 use lib.ListN.{length, take, drop}
 use Rattle.table.specs.Lines.{lines}
@@ -56,9 +55,3 @@ allLines (x ∷ xs) = lines x ++ allLines xs
 unfoldable pub together : List Bytes → Bytes
 together [] = []
 together (x ∷ xs) = x ++ together xs
-
--- a piece that has the unfinished line after the blocks bs in its first `kept` bytes
-pub record Carries (bs : List Bytes) (piece : Bytes) (kept : ℕ) : Type 0 where
-  pub few : kept ≤ 260
-  pub fits : kept ≤ length piece
-  pub line : take kept piece ≡ unfinished [] bs

@@ -1,22 +1,19 @@
 -- What canonicalising into a buffer gives, for the operations that go on from there: a form with its identifier, or a
 -- refusal, which stands. Assumes nothing.
-use mathlib.Core.Path.{_≡_, refl, ap, subst}
-use mathlib.Core.List.{[], _∷_}
+use mathlib.Core.Path.{_≡_, refl, sym, ap, _∙_, subst}
+use mathlib.Core.List.{[]}
 use Prim.Native.Nat.{ℕ, _≤_}
 use native.Mathlib.Omega.{arith}
 use lib.ListN.{take}
-use types.Run.{OneOf, miss}
-use denote.Enum.Declared.{tagOf}
 use Rattle.standard.specs.Delivery.{Bytes}
-use Rattle.standard.specs.Identifier.{Identifier, Answer, done, refused, canonical, size}
+use Rattle.standard.specs.Identifier.{Identifier, Answer, done, refused, canonical, printedLength}
 use Rattle.standard.specs.Reading.{Read, good, bad, read, print}
 use Rattle.standard.specs.Table.{tablesOf}
-use Rattle.canonical.proofs.form.Canon.{the-type}
 use Rattle.canonical.specs.declared.form.Form.{Form}
 use Rattle.canonical.specs.declared.form.Canon.{Canon}
-use Rattle.canonical.specs.declared.form.Canon.the-variants.{Formed, Empty, TooLong, BadByte, BadSize, Misplaced, Repeated, Unfinished, Overlong}
-use Rattle.canonical.specs.Form.{form as formed-as, refusal as refused-as, formOf, formed, canonicalOf, outcomeOf, outcome, FormFits}
-use Rattle.operations.specs.Answer.{answerOf, refusedAnswer, refusedOf, givenRefused}
+use Rattle.canonical.specs.declared.form.Canon.the-variants.{Formed, Refused}
+use Rattle.canonical.specs.declared.form.NoForm.{NoForm}
+use Rattle.canonical.specs.Form.{form as formed-as, refusal as refused-as, formOf, formed, canonicalOf, noFormIs, outcomeOf, outcome, FormFits}
 
 -- What a form in a buffer stands for.
 pub record Canonicalised (A x : Bytes) (f : Form) (buf : Bytes) : Type 0 where
@@ -47,7 +44,7 @@ canonicalised A x f buf e = go (read x) refl e
 
 -- where the parts end, one behind the other
 pub in-order : (f : Form) (i : Identifier) → f ≡ formOf i → (f .language ≤ f .script) × (f .script ≤ f .region) × (f .region ≤ f .len)
-unfolding formOf size
+unfolding formOf printedLength
 in-order f i e =
     let a = ap (λ (g : Form). g .language) e in
     let b = ap (λ (g : Form). g .script) e in
@@ -63,31 +60,10 @@ pub fits-by : {c : Canon} {f : Form} → c ≡ Formed f → FormFits c → f .le
 unfolding FormFits
 fits-by e h = subst FormFits e h
 
--- a refusal has a number and a place, whatever the buffer holds
-pub refusal-form : (c : Canon) (buf : Bytes) → OneOf (1 ∷ 2 ∷ 3 ∷ 4 ∷ 5 ∷ 6 ∷ 7 ∷ 8 ∷ []) (tagOf the-type c) → (n : ℕ) × (p : ℕ) × (outcomeOf c [] ≡ refused-as n p) × (outcomeOf c buf ≡ refused-as n p)
+-- the refusal that the code has in hand
+pub refused-by : (A x buf : Bytes) {c : Canon} {r : NoForm} → c ≡ Refused r → outcomeOf c buf ≡ outcome A x → outcome A x ≡ refused-as (noFormIs r .number) (noFormIs r .place)
 unfolding outcomeOf
-refusal-form (Formed f) buf k = absurd (miss (1 ∷ 2 ∷ 3 ∷ 4 ∷ 5 ∷ 6 ∷ 7 ∷ 8 ∷ []) 0 tt k)
-refusal-form Empty buf k = (1, 0, refl, refl)
-refusal-form TooLong buf k = (2, 0, refl, refl)
-refusal-form (BadByte at) buf k = (3, at, refl, refl)
-refusal-form (BadSize at) buf k = (4, at, refl, refl)
-refusal-form (Misplaced at) buf k = (5, at, refl, refl)
-refusal-form (Repeated at) buf k = (6, at, refl, refl)
-refusal-form (Unfinished at) buf k = (7, at, refl, refl)
-refusal-form Overlong buf k = (9, 0, refl, refl)
+refused-by A x buf e h = sym h ∙ ap (λ (q : Canon). outcomeOf q buf) e
 
 pub refusal-one : {m n p q : ℕ} → refused-as m p ≡ refused-as n q → (m ≡ n) × (p ≡ q)
 refusal-one e = (cc, cc)
-
--- a refusal of canonicalising, as an answer
-pub refused-answer : (c : Canon) (out : Bytes) → answerOf (refusedOf c) out ≡ givenRefused (outcomeOf c []) out
-unfolding answerOf refusedOf refusedAnswer outcomeOf givenRefused
-refused-answer (Formed f) out = refl
-refused-answer Empty out = refl
-refused-answer TooLong out = refl
-refused-answer (BadByte at) out = refl
-refused-answer (BadSize at) out = refl
-refused-answer (Misplaced at) out = refl
-refused-answer (Repeated at) out = refl
-refused-answer (Unfinished at) out = refl
-refused-answer Overlong out = refl

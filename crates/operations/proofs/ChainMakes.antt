@@ -5,8 +5,6 @@ use mathlib.Core.List.{List, [], _∷_, _++_, append-nil, append-assoc}
 use mathlib.Core.Option.{none}
 use Prim.Native.Nat.{ℕ, _+_, _≤_}
 use native.Mathlib.Omega.{arith}
-use types.Run.{OneOf}
-use denote.Enum.Declared.{tagOf}
 use borrow.Author.Tests.{leb-true}
 use lib.Dec.{leb}
 use lib.ListN.{length, take, drop, length-append}
@@ -15,21 +13,23 @@ use Rattle.standard.specs.Tag.{Tag}
 use Rattle.standard.specs.Grammar.{flat}
 use Rattle.standard.specs.Delivery.{Bytes, Made, refusal, given}
 use Rattle.standard.specs.Calls.{canonicalise}
-use Rattle.standard.specs.Identifier.{Identifier, Tables, Answer, done, refused, canonical, part, parts, size}
+use Rattle.standard.specs.Identifier.{Identifier, Tables, Answer, done, refused, canonical, part, parts, printedLength}
 use Rattle.standard.specs.Reading.{Read, good, bad, read, print, optional}
 use Rattle.standard.specs.Chain.{line}
-use Rattle.standard.specs.Table.{tablesOf, check, listing}
+use Rattle.standard.specs.Table.{tablesOf, check, toChain, toCheck, listing}
 use Rattle.standard.specs.Make.{operate, identifier, printLine, chainOf, listed, chainMade, chainFrom}
 use Rattle.standard.proofs.Lines.{Plain}
 use Rattle.standard.proofs.Whole.{same-canonical, narrow-parents}
-use Rattle.canonical.proofs.form.Canon.{the-type}
 use Rattle.canonical.specs.declared.form.Form.{Form}
 use Rattle.canonical.specs.declared.form.Canon.{Canon}
+use Rattle.canonical.specs.declared.form.Canon.the-variants.{Refused as NotFormed}
+use Rattle.canonical.specs.declared.form.NoForm.{NoForm}
 use Rattle.subtag.specs.Sections.{led}
-use Rattle.canonical.specs.Form.{refusal as refused-as, formOf, formed, canonicalOf, outcomeOf, outcome}
+use Rattle.canonical.specs.Form.{refusal as refused-as, formOf, formed, canonicalOf, noFormIs, outcomeOf, outcome}
 use Rattle.canonical.proofs.Print.{print-led}
-use Rattle.operations.specs.Answer.{givenRefused}
-use Rattle.operations.proofs.Canonicalised.{Canonicalised, refusal-form, refusal-one, form-not}
+use Rattle.operations.specs.Answer.{refusedOf, givenRefused}
+use Rattle.operations.proofs.Canonicalised.{Canonicalised, refused-by, refusal-one, form-not}
+use Rattle.operations.proofs.Delivers.{refused-given}
 use Rattle.operations.proofs.Wholes.{printable-among}
 use Rattle.parents.specs.declared.lines.Listed.{Listed}
 use Rattle.operations.specs.declared.chain.Answered.the-variants.{Refused, Lines}
@@ -51,12 +51,12 @@ refused-chain A P x n p e = go (read x) e
     go (bad m q) k = let z = refusal-one k in rw (z .0, z .1)
     go (good i) k = by i (canonical (tablesOf A [] []) i) refl k
 
-pub chain-stands : (A P x : Bytes) (c : Canon) (buf out : Bytes) → outcomeOf c buf ≡ outcome A x → OneOf (1 ∷ 2 ∷ 3 ∷ 4 ∷ 5 ∷ 6 ∷ 7 ∷ 8 ∷ []) (tagOf the-type c)
-    → givenAnswered (Refused c) out ≡ given (chainFrom (tablesOf A [] P) (read x)) out
-unfolding givenAnswered givenRefused given
-chain-stands A P x c buf out e k =
-    let r = refusal-form c buf k in
-    rw (r .2, refused-chain A P x (r .0) (r .1) (sym e ∙ r .3))
+pub chain-stands : (A P x : Bytes) (c : Canon) (r : NoForm) (buf out : Bytes) → c ≡ NotFormed r → outcomeOf c buf ≡ outcome A x
+    → givenAnswered (Refused r) out ≡ given (chainFrom (tablesOf A [] P) (read x)) out
+unfolding givenAnswered givenRefused refusedOf
+chain-stands A P x c r buf out k e =
+    refused-given (noFormIs r .number) (noFormIs r .place) 0 out
+    ∙ ap (λ (m : Made). given m out) (sym (refused-chain A P x (noFormIs r .number) (noFormIs r .place) (refused-by A x buf k e)))
 
 -- a line is the front of the form that it was made of
 led-length : (ts : List Tag) → length (led ts) ≡ parts ts
@@ -108,7 +108,7 @@ module _ (A P x : Bytes) (f : Form) (buf : Bytes) (w : Canonicalised A x f buf) 
   c = w .form
 
   pub form-bounds : (f .variants ≤ f .len) × (f .count ≤ f .len)
-  unfolding formOf size
+  unfolding formOf printedLength
   form-bounds =
       let a = ap (λ (g : Form). g .variants) (w .ends) in
       let b = ap (λ (g : Form). g .count) (w .ends) in
@@ -123,11 +123,11 @@ module _ (A P x : Bytes) (f : Form) (buf : Bytes) (w : Canonicalised A x f buf) 
       let n : f .variants ≡ length (frontOf c) = a ∙ sym (front-length c) in
       sym (take-take (f .variants) (f .len) buf (form-bounds .0)) ∙ (ap (take (f .variants)) (w .bytes ∙ front-print c) ∙ (ap (λ (m : ℕ). take m (frontOf c ++ (led (flat (c .extensions)) ++ led (c .private)))) n ∙ (take-append-seam (frontOf c) (led (flat (c .extensions)) ++ led (c .private)) ∙ sym (front-line c))))
 
-  module _ (pass : check false true A [] P ≡ none) where
+  module _ (pass : check toChain A [] P ≡ none) where
     abbrev T : Tables
     T = tablesOf A [] P
 
-    abbrev whole : check true true A [] P ≡ none
+    abbrev whole : check toCheck A [] P ≡ none
     whole = narrow-parents A P ∙ pass
 
     canonicalises : canonical T (w .input) ≡ done c

@@ -8,17 +8,16 @@ use native.Mathlib.Omega.{arith}
 use borrow.Author.Tests.{leb-true}
 use lib.Dec.{leb, ltb}
 use lib.ListN.{length, take, length-append}
-use Rattle.standard.specs.Tag.{Tag, same}
+use Rattle.standard.specs.Tag.{Tag, same, All}
 use Rattle.standard.specs.Grammar.{aVariant, kind, kindOf, variantKind, sizeOf, flat}
 use Rattle.standard.specs.Delivery.{Bytes}
-use Rattle.standard.specs.Identifier.{Identifier, Tables, done, und, canonical, canonicalForm, parts, size}
+use Rattle.standard.specs.Identifier.{Identifier, Tables, done, und, canonical, canonicalForm, parts, printedLength}
 use Rattle.standard.specs.Calls.{canonicalise}
 use Rattle.standard.specs.Reading.{read, good}
 use Rattle.standard.specs.Chain.{line}
-use Rattle.standard.specs.Table.{lookup, rows, located, tablesOf, check, listing}
+use Rattle.standard.specs.Table.{lookup, rows, located, tablesOf, check, toChain, toCheck, listing}
 use Rattle.standard.specs.Make.{operate, identifier, printLine, chainOf}
-use Rattle.standard.proofs.Bytes.{clash}
-use Rattle.standard.proofs.Tags.{All}
+use Rattle.standard.proofs.General.{clash}
 use Rattle.standard.proofs.Faults.{Variants}
 use Rattle.standard.proofs.Operations.{bounded-done}
 use Rattle.standard.proofs.Round.{Printable, length-print}
@@ -94,11 +93,11 @@ variants-halve [] h = omega arith
 variants-halve (v ∷ vs) h = let k = variant-some v (h .0) in let m = variants-halve vs (h .1) in omega (arith, k, m)
 
 -- the chain of a canonical form: at most 127 variants, so at most 138 lines
-module _ (A P x : Bytes) (i c : Identifier) (pass : check false true A [] P ≡ none) (r : read x ≡ good i) (d : canonical (tablesOf A [] P) i ≡ done c) where
+module _ (A P x : Bytes) (i c : Identifier) (pass : check toChain A [] P ≡ none) (r : read x ≡ good i) (d : canonical (tablesOf A [] P) i ≡ done c) where
   abbrev T : Tables
   T = tablesOf A [] P
 
-  abbrev whole : check true true A [] P ≡ none
+  abbrev whole : check toCheck A [] P ≡ none
   whole = narrow-parents A P ∙ pass
 
   printable : Printable c
@@ -108,16 +107,16 @@ module _ (A P x : Bytes) (i c : Identifier) (pass : check false true A [] P ≡ 
   plain : Plain (line (c .core) (c .variants))
   plain = first-plain c printable
 
-  form-short : size c ≤ 255
+  form-short : printedLength c ≤ 255
   unfolding canonical
-  form-short = let q = bounded-done (canonicalForm T i) c d in leb-true _ _ (ap (λ (j : Identifier). leb (size j) 255) (sym (q .0)) ∙ q .1)
+  form-short = let q = bounded-done (canonicalForm T i) c d in leb-true _ _ (ap (λ (j : Identifier). leb (printedLength j) 255) (sym (q .0)) ∙ q .1)
 
   line-length : length (printLine (line (c .core) (c .variants))) ≤ 255
-  unfolding printLine size identifier flat parts
+  unfolding printLine printedLength identifier flat parts
   line-length = let e = length-print (identifier (line (c .core) (c .variants))) (plain-printable _ plain) in omega (arith, e, form-short)
 
   few-variants : length (c .variants) ≤ 127
-  unfolding size
+  unfolding printedLength
   few-variants = let h = variants-halve (c .variants) (printable .variants) in omega (arith, h, form-short)
 
   lines-short : Short (length (c .variants) + 10) (chainOf T c)

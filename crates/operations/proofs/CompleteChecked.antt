@@ -5,12 +5,13 @@ use mathlib.Core.List.{[]}
 use mathlib.Core.Option.{Option, none}
 use Rattle.standard.specs.Delivery.{Bytes, given}
 use Rattle.standard.specs.Calls.{minimise}
-use Rattle.standard.specs.Table.{TableFault, tablesOf, check}
+use Rattle.standard.specs.Table.{TableFault, tablesOf, inUse, check, toMaximise}
 use Rattle.standard.specs.Make.{make, afterCheck, maximiseMade, minimiseMade, whole}
+use Rattle.standard.specs.Tag.{All}
 use Rattle.standard.proofs.Numbers.{Proper, whole-proper}
 use Rattle.standard.proofs.Whole.{narrow-likely}
-use Rattle.table_check.proofs.Ordered.{check-sorted}
-use Rattle.operations.specs.Answer.{answerOf, refusedAnswer}
+use Rattle.table_check.proofs.Ordered.{SortedTable, check-sorted}
+use Rattle.operations.specs.Answer.{answerOf, refusedAnswer, givenRefused}
 use Rattle.operations.specs.declared.delivery.Answer.{Answer}
 use Rattle.operations.proofs.Wholes.{tested-among, passed-stands}
 use Rattle.likely.specs.declared.forms.Outcome.{Outcome}
@@ -18,7 +19,6 @@ use Rattle.likely.specs.declared.forms.Outcome.the-variants.{Done, NoRow, Long,
 use Rattle.operations.specs.declared.complete.Answered.{Answered}
 use Rattle.operations.specs.declared.complete.Answered.the-variants.{Refused, Made}
 use Rattle.likely.specs.Forms.{givenBy}
-use Rattle.operations.proofs.Canonicalised.{refused-answer}
 use Rattle.operations.specs.Completed.{givenAnswered, outcomeAnswer, answerBy}
 use Rattle.operations.specs.Both.{TestedBoth, operationOf, wholeMade}
 
@@ -30,21 +30,22 @@ outcome-given Long out = refl
 outcome-given Short out = refl
 
 pub answer-given : (a : Answered) (out : Bytes) → answerOf (answerBy a) out ≡ givenAnswered a out
-unfolding answerBy givenAnswered
-answer-given (Refused c) out = refused-answer c out
+unfolding answerBy givenAnswered givenRefused
+answer-given (Refused r) out = refl
 answer-given (Made o) out = outcome-given o out
 
 -- tables that pass are as the inner operation asks
-pub tested-both : (A L : Bytes) → check true false A L [] ≡ none → TestedBoth A L
+pub tested-both : (A L : Bytes) → check toMaximise A L [] ≡ none → TestedBoth A L
+unfolding inUse All SortedTable
 tested-both A L e =
     record {
       passes = e;
       aliases = tested-among A L [] (narrow-likely A L ∙ e);
-      likely = check-sorted true false A L [] e .likely refl;
+      likely = check-sorted toMaximise A L [] e .1 .0;
     }
 
 -- nothing is refused for tables that pass
-whole-good : (b : Bool) (A L x : Bytes) → check true false A L [] ≡ none → wholeMade b A L x ≡ make (tablesOf A L []) (operationOf b) x
+whole-good : (b : Bool) (A L x : Bytes) → check toMaximise A L [] ≡ none → wholeMade b A L x ≡ make (tablesOf A L []) (operationOf b) x
 unfolding wholeMade afterCheck
 whole-good b A L x e = ap (λ (o : Option TableFault). afterCheck o (make (tablesOf A L []) (operationOf b) x)) e
 
@@ -57,13 +58,13 @@ unfolding wholeMade minimiseMade operationOf
 whole-minimised A L x = refl
 
 -- a refusal of minimising has a number
-pub minimised-proper : (A L x : Bytes) → check true false A L [] ≡ none → Proper (make (tablesOf A L []) (operationOf true) x)
+pub minimised-proper : (A L x : Bytes) → check toMaximise A L [] ≡ none → Proper (make (tablesOf A L []) (operationOf true) x)
 unfolding whole
 minimised-proper A L x e = subst Proper (sym (whole-minimised A L x) ∙ whole-good true A L x e) (whole-proper A L [] minimise x)
 
 -- what was made over tables that pass is the whole answer
-pub whole-answer : (b : Bool) (A L x : Bytes) (a : Answered) (r : Answer) (out out′ : Bytes) → check true false A L [] ≡ none → r ≡ answerBy a
+pub whole-answer : (b : Bool) (A L x : Bytes) (a : Answered) (r : Answer) (out out′ : Bytes) → check toMaximise A L [] ≡ none → r ≡ answerBy a
     → givenAnswered a out′ ≡ given (make (tablesOf A L []) (operationOf b) x) out → answerOf r out′ ≡ given (wholeMade b A L x) out
 unfolding wholeMade
 whole-answer b A L x a r out out′ e f g =
-    passed-stands (check true false A L []) (make (tablesOf A L []) (operationOf b) x) out out′ r (answerBy a) e f (answer-given a out′ ∙ g)
+    passed-stands (check toMaximise A L []) (make (tablesOf A L []) (operationOf b) x) out out′ r (answerBy a) e f (answer-given a out′ ∙ g)

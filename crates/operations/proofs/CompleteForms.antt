@@ -8,20 +8,20 @@ use native.Mathlib.Omega.{arith}
 use lib.ListN.{length, take, drop, take-append-drop}
 use lib.Seq.{take-append-seam, drop-append-seam, drop-append-add}
 use Rattle.standard.specs.Delivery.{Bytes, Made as MadeBytes, refusal, Given, given}
-use types.Run.{OneOf}
-use denote.Enum.Declared.{tagOf}
-use Rattle.canonical.proofs.form.Canon.{the-type}
 use Rattle.canonical.specs.declared.form.Canon.{Canon}
+use Rattle.canonical.specs.declared.form.Canon.the-variants.{Refused as NotFormed}
+use Rattle.canonical.specs.declared.form.NoForm.{NoForm}
 use Rattle.operations.specs.declared.complete.Answered.the-variants.{Refused, Made}
 use Rattle.likely.specs.declared.forms.Outcome.{Outcome}
-use Rattle.operations.specs.Answer.{givenRefused}
-use Rattle.operations.proofs.Canonicalised.{Canonicalised, refusal-form, form-not, refusal-one}
+use Rattle.operations.specs.Answer.{refusedOf, givenRefused}
+use Rattle.operations.proofs.Canonicalised.{Canonicalised, refused-by, form-not, refusal-one}
+use Rattle.operations.proofs.Delivers.{refused-given}
 use Rattle.operations.proofs.Wholes.{printable-among}
 use Rattle.operations.specs.Completed.{givenAnswered}
 use Rattle.standard.specs.Calls.{canonicalise}
-use Rattle.standard.specs.Identifier.{Three, Identifier, Tables, Answer, done, refused, canonical, canonicalForm, maximised, minimised, then, maximalThree, withoutUnknown, trial, withThree, part, size}
+use Rattle.standard.specs.Identifier.{Three, Identifier, Tables, Answer, done, refused, canonical, canonicalForm, maximised, minimised, then, maximalThree, withoutUnknown, trial, withThree, part, printedLength}
 use Rattle.standard.specs.Reading.{Read, good, bad, read}
-use Rattle.standard.specs.Table.{tablesOf, check}
+use Rattle.standard.specs.Table.{tablesOf, check, toMaximise, toCheck}
 use Rattle.standard.specs.Make.{operate, made, makeOf, make}
 use Rattle.standard.proofs.Core.{Full, maximal-full}
 use Rattle.standard.proofs.Operations.{bounded-done}
@@ -31,7 +31,7 @@ use Rattle.standard.proofs.Table.{Passed, passed, good-tables, shaped-tables}
 use Rattle.standard.proofs.Whole.{same-canonical, narrow-likely}
 use Rattle.table.specs.Hints.{Indexed}
 use Rattle.canonical.specs.declared.form.Form.{Form}
-use Rattle.canonical.specs.Form.{refusal as refused-as, formOf, formed, canonicalOf, outcomeOf, outcome}
+use Rattle.canonical.specs.Form.{refusal as refused-as, formOf, formed, canonicalOf, noFormIs, outcomeOf, outcome}
 use Rattle.likely.specs.Parts.{ledPart, Parts, parts3, partsOf, joinedParts, fillParts, Ready}
 use Rattle.likely.specs.Forms.{givenBy, bytesOf, madeParts, ReadyFor}
 use Rattle.operations.specs.Both.{operationOf}
@@ -68,11 +68,11 @@ unfolding ledPart part
 led-size [] = refl
 led-size (b ∷ bs) = refl
 
-module _ (A L : Bytes) (pass : check true false A L [] ≡ none) (hints : Bytes) (indexed : Indexed L hints) (x : Bytes) (f : Form) (buf : Bytes) (w : Canonicalised A x f buf) where
+module _ (A L : Bytes) (pass : check toMaximise A L [] ≡ none) (hints : Bytes) (indexed : Indexed L hints) (x : Bytes) (f : Form) (buf : Bytes) (w : Canonicalised A x f buf) where
   abbrev T : Tables
   T = tablesOf A L []
 
-  abbrev whole : check true true A L [] ≡ none
+  abbrev whole : check toCheck A L [] ≡ none
   whole = narrow-likely A L ∙ pass
 
   abbrev ok : Passed A L []
@@ -130,7 +130,7 @@ module _ (A L : Bytes) (pass : check true false A L [] ≡ none) (hints : Bytes)
   unfolding formOf partsOf bytesOf joinedParts
   sizes =
       let e = w .ends in
-      let n : size c ≡ length (c .core .language) + length (ledPart (c .core .script)) + length (ledPart (c .core .region)) + length (restOf c) =
+      let n : printedLength c ≡ length (c .core .language) + length (ledPart (c .core .script)) + length (ledPart (c .core .region)) + length (restOf c) =
       sym (length-print c printable) ∙ (ap length (print-rest c) ∙ form-length (c .core .language) (ledPart (c .core .script)) (ledPart (c .core .region)) (restOf c)) in
       let a = ap (λ (g : Form). g .language) e in
       let b = ap (λ (g : Form). g .script) e in
@@ -173,14 +173,14 @@ refused-made A L x b n p e = go (read x) e
     go (bad m q) k = let z = refusal-one k in rw (z .0, z .1)
     go (good i) k = by i (canonical (tablesOf A [] []) i) refl k
 
-pub refusal-stands : (A L x : Bytes) (b : Bool) (c : Canon) (buf out : Bytes) → outcomeOf c buf ≡ outcome A x → OneOf (1 ∷ 2 ∷ 3 ∷ 4 ∷ 5 ∷ 6 ∷ 7 ∷ 8 ∷ []) (tagOf the-type c)
-    → givenAnswered (Refused c) out ≡ given (make (tablesOf A L []) (operationOf b) x) out
-unfolding givenAnswered givenRefused given
-refusal-stands A L x b c buf out e k =
-    let r = refusal-form c buf k in
-    rw (r .2, refused-made A L x b (r .0) (r .1) (sym e ∙ r .3))
+pub refusal-stands : (A L x : Bytes) (b : Bool) (c : Canon) (r : NoForm) (buf out : Bytes) → c ≡ NotFormed r → outcomeOf c buf ≡ outcome A x
+    → givenAnswered (Refused r) out ≡ given (make (tablesOf A L []) (operationOf b) x) out
+unfolding givenAnswered givenRefused refusedOf
+refusal-stands A L x b c r buf out k e =
+    refused-given (noFormIs r .number) (noFormIs r .place) 0 out
+    ∙ ap (λ (m : MadeBytes). given m out) (sym (refused-made A L x b (noFormIs r .number) (noFormIs r .place) (refused-by A x buf k e)))
 
-pub made-answer : (A L : Bytes) (pass : check true false A L [] ≡ none) (hints : Bytes) (indexed : Indexed L hints) (x : Bytes) (f : Form) (buf : Bytes) (w : Canonicalised A x f buf) (b : Bool) (o : Outcome) (out out′ : Bytes)
+pub made-answer : (A L : Bytes) (pass : check toMaximise A L [] ≡ none) (hints : Bytes) (indexed : Indexed L hints) (x : Bytes) (f : Form) (buf : Bytes) (w : Canonicalised A x f buf) (b : Bool) (o : Outcome) (out out′ : Bytes)
     → ((p : Parts) → (rest : Bytes) → Slices buf (p .language) (p .script) (p .region) rest (f .language) (f .script) (f .region) (f .len) → ReadyFor L hints p → givenBy o out′ ≡ given (madeParts b L rest p) out)
     → givenAnswered (Made o) out′ ≡ given (make (tablesOf A L []) (operationOf b) x) out
 unfolding givenAnswered

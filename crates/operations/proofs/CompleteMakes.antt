@@ -10,10 +10,10 @@ use lib.Dec.{leb}
 use lib.ListN.{length}
 use Rattle.standard.specs.Tag.{Tag}
 use Rattle.standard.specs.Grammar.{flat}
-use Rattle.standard.specs.Identifier.{Three, Identifier, Tables, Answer, done, refused, bounded, size, withThree, filled, then, maximalThree, minimalThree, withoutUnknown}
+use Rattle.standard.specs.Identifier.{Three, Identifier, Tables, Answer, done, refused, bounded, printedLength, withThree, filled, then, maximalThree, minimalThree, withoutUnknown}
 use Rattle.standard.specs.Reading.{optional, print}
 use Rattle.standard.specs.Delivery.{Bytes, refusal, form}
-use Rattle.standard.specs.Table.{tablesOf, check}
+use Rattle.standard.specs.Table.{tablesOf, check, toCheck}
 use Rattle.standard.specs.Make.{made}
 use Rattle.standard.proofs.Round.{Shaped, Printable, length-print}
 use Rattle.standard.proofs.Core.{Full}
@@ -45,7 +45,7 @@ print-rest i =
     ∙ (ap (λ (x : Bytes). l ++ x) (sym (append-assoc s r (restOf i))) ∙ sym (append-assoc l (s ++ r) (restOf i))))
 
 -- its length is what number 9 is about
-with-length : (c : Identifier) (t : Three) → Printable (withThree c t) → length (bytesOf (partsOf t) (restOf c)) ≡ size (withThree c t)
+with-length : (c : Identifier) (t : Three) → Printable (withThree c t) → length (bytesOf (partsOf t) (restOf c)) ≡ printedLength (withThree c t)
 unfolding withThree restOf
 with-length c t h = sym (ap length (print-rest (withThree c t))) ∙ length-print (withThree c t) h
 
@@ -53,9 +53,9 @@ with-print : (c : Identifier) (t : Three) → print (withThree c t) ≡ bytesOf 
 unfolding withThree restOf
 with-print c t = print-rest (withThree c t)
 
-made-bounded : (f : Identifier → Identifier) (i : Identifier) → made (then (λ m. done (f m)) (bounded i)) ≡ cond (leb (size i) 255) (form (print (f i))) (refusal 9 0 0)
+made-bounded : (f : Identifier → Identifier) (i : Identifier) → made (then (λ m. done (f m)) (bounded i)) ≡ cond (leb (printedLength i) 255) (form (print (f i))) (refusal 9 0 0)
 unfolding made then bounded
-made-bounded f i = go (leb (size i) 255)
+made-bounded f i = go (leb (printedLength i) 255)
   where
     go : (b : Bool) → made (then (λ m. done (f m)) (cond b (done i) (refused 9))) ≡ cond b (form (print (f i))) (refusal 9 0 0)
     go true = refl
@@ -66,7 +66,7 @@ unfolding then
 then-same (done i) = refl
 then-same (refused n) = refl
 
-module _ (A L P : Bytes) (pass : check true true A L P ≡ none) (c : Identifier) (h : (t : Three) → maximalThree (tablesOf A L P) (withoutUnknown (c .core)) ≡ some t → Printable (withThree c t)) where
+module _ (A L P : Bytes) (pass : check toCheck A L P ≡ none) (c : Identifier) (h : (t : Three) → maximalThree (tablesOf A L P) (withoutUnknown (c .core)) ≡ some t → Printable (withThree c t)) where
   abbrev T : Tables
   T = tablesOf A L P
 

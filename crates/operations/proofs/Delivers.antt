@@ -1,39 +1,36 @@
 -- Laws of delivery; and what canonicalising over tested aliases makes. Assumes nothing.
 use mathlib.Core.Path.{_≡_, refl, sym, ap, _∙_}
-use mathlib.Core.Bool.{false}
-use mathlib.Core.List.{List, [], _∷_, _++_}
+use mathlib.Core.List.{List, [], _++_}
 use mathlib.Core.Option.{Option, none}
 use Prim.Native.Nat.{ℕ, _+_, _≤_, _<_}
 use native.Mathlib.Omega.{arith}
 use lib.ListN.{length, take, drop}
 use lib.Seq.{sets, sets-eq}
 use borrow.Author.Tests.{le-leb, lt-leb}
-use types.Run.{OneOf}
-use denote.Enum.Declared.{tagOf}
 use Rattle.standard.specs.Delivery.{Made, result, refusal as refusalMade, given}
 use Rattle.standard.specs.Identifier.{Answer as StandardAnswer, done, refused, canonical}
 use Rattle.standard.specs.Reading.{Read, good, bad, read}
 use Rattle.standard.specs.Calls.{canonicalise}
-use Rattle.standard.specs.Table.{tablesOf, TableFault, check}
+use Rattle.standard.specs.Table.{toCanonicalise, tablesOf, TableFault, check}
 use Rattle.standard.specs.Make.{made, operate, makeOf, make, afterCheck, canonicaliseMade}
 use Rattle.table_check.specs.declared.Verdict.{Verdict}
 use Rattle.table_check.specs.declared.Verdict.the-variants.{Good, Bad}
 use Rattle.table_check.specs.Verdicts.{verdictIs}
-use Rattle.canonical.proofs.form.Canon.{the-type}
 use Rattle.operations.specs.declared.delivery.Answer.{Answer}
 use Rattle.canonical.specs.declared.form.Form.{Form}
 use Rattle.canonical.specs.declared.form.Canon.{Canon}
-use Rattle.canonical.specs.declared.form.Canon.the-variants.{Formed}
-use Rattle.canonical.specs.Form.{Outcome, outcomeOf, formed, canonicalOf, outcome}
-use Rattle.operations.specs.Answer.{answerOf, refusedAnswer, refusedOf, refusedTable, madeOf, givenRefused}
-use Rattle.operations.proofs.Canonicalised.{refusal-form, refused-answer}
+use Rattle.canonical.specs.declared.form.Canon.the-variants.{Formed, Refused}
+use Rattle.canonical.specs.declared.form.NoForm.{NoForm}
+use Rattle.canonical.specs.Form.{Outcome, noFormIs, outcomeOf, formed, canonicalOf, outcome}
+use Rattle.operations.specs.Answer.{answerOf, refusedAnswer, refusedOf, madeOf}
+use Rattle.operations.proofs.Canonicalised.{refused-by}
 
 pub too-short : (b out : List ℕ) (steps : ℕ) (r : Answer) → r ≡ refusedAnswer 10 0 0 → length out < length b → answerOf r out ≡ given (result b steps) out
 unfolding answerOf refusedAnswer given
 too-short b out steps r e h = ap (λ (a : Answer). answerOf a out) e ∙ rw (lt-leb (length b) (length out) h)
 
 pub delivered : (b out out′ : List ℕ) (steps n : ℕ) → length b ≤ length out → n ≡ 0 + length b → out′ ≡ sets out 0 b
-    → answerOf (record { number = 0; table = 0; place = 0; len = n; steps = steps }) out′ ≡ given (result b steps) out
+    → answerOf (record { number = 0; place = 0; table = 0; len = n; steps = steps }) out′ ≡ given (result b steps) out
 unfolding answerOf given
 delivered b out out′ steps n h e f =
     let k : n ≡ length b = omega arith in
@@ -59,13 +56,11 @@ made-outcome A x = go (read x)
     go (bad n p) = refl
 
 -- a refusal of canonicalising, delivered
-pub refused-stands : (A x b out : List ℕ) (c : Canon) (r : Answer) → r ≡ refusedOf c → outcomeOf c b ≡ outcome A x → OneOf (1 ∷ 2 ∷ 3 ∷ 4 ∷ 5 ∷ 6 ∷ 7 ∷ 8 ∷ []) (tagOf the-type c)
-    → answerOf r out ≡ given (make (tablesOf A [] []) canonicalise x) out
-unfolding givenRefused madeOf given
-refused-stands A x b out c r e f k =
-    let z = refusal-form c b k in
-    let g : givenRefused (outcomeOf c []) out ≡ given (madeOf (outcomeOf c b)) out = ap (λ (o : Outcome). givenRefused o out) (z .2) ∙ sym (ap (λ (o : Outcome). given (madeOf o) out) (z .3)) in
-    ap (λ (a : Answer). answerOf a out) e ∙ refused-answer c out ∙ g ∙ ap (λ (o : Outcome). given (madeOf o) out) f ∙ ap (λ (m : Made). given m out) (made-outcome A x)
+pub refused-stands : (A x b out : List ℕ) (c : Canon) (why : NoForm) (r : Answer) → r ≡ refusedOf why → c ≡ Refused why → outcomeOf c b ≡ outcome A x → answerOf r out ≡ given (make (tablesOf A [] []) canonicalise x) out
+unfolding refusedOf madeOf
+refused-stands A x b out c why r e k f =
+    ap (λ (a : Answer). answerOf a out) e ∙ refused-given (noFormIs why .number) (noFormIs why .place) 0 out
+    ∙ ap (λ (o : Outcome). given (madeOf o) out) (sym (refused-by A x b k f)) ∙ ap (λ (m : Made). given m out) (made-outcome A x)
 
 -- a form, delivered
 pub form-delivered : (A x b out out′ : List ℕ) (c : Canon) (f : Form) (r : Answer) → c ≡ Formed f → outcomeOf c b ≡ outcome A x → answerOf r out′ ≡ given (result (take (f .len) b) 0) out
@@ -74,14 +69,14 @@ unfolding outcomeOf madeOf
 form-delivered A x b out out′ c f r e g h = h ∙ ap (λ (o : Outcome). given (madeOf o) out) (sym (ap (λ (d : Canon). outcomeOf d b) e) ∙ g) ∙ ap (λ (m : Made). given m out) (made-outcome A x)
 
 -- The check comes first.
-pub table-stands : {n t p : ℕ} (v : Verdict) (o : Option TableFault) (m : Made) (out : List ℕ) (r : Answer) → v ≡ Bad n t p → r ≡ refusedTable v → verdictIs v ≡ o → answerOf r out ≡ given (afterCheck o m) out
-unfolding refusedTable afterCheck
-table-stands {n} {t} {p} v o m out r g e f =
-    ap (λ (a : Answer). answerOf a out) (e ∙ ap refusedTable g) ∙ refused-given n p t out ∙ ap (λ (w : Option TableFault). given (afterCheck w m) out) (sym (ap verdictIs g) ∙ f)
+pub table-stands : {n p t : ℕ} (v : Verdict) (o : Option TableFault) (m : Made) (out : List ℕ) (r : Answer) → v ≡ Bad n p t → r ≡ refusedAnswer n p t → verdictIs v ≡ o → answerOf r out ≡ given (afterCheck o m) out
+unfolding afterCheck
+table-stands {n} {p} {t} v o m out r g e f =
+    ap (λ (a : Answer). answerOf a out) e ∙ refused-given n p t out ∙ ap (λ (w : Option TableFault). given (afterCheck w m) out) (sym (ap verdictIs g) ∙ f)
 
 pub table-good : (v : Verdict) (o : Option TableFault) → verdictIs v ≡ o → v ≡ Good → o ≡ none
 table-good v o e f = sym e ∙ ap verdictIs f
 
-pub after-good : (A x : List ℕ) → check false false A [] [] ≡ none → canonicaliseMade A x ≡ make (tablesOf A [] []) canonicalise x
+pub after-good : (A x : List ℕ) → check toCanonicalise A [] [] ≡ none → canonicaliseMade A x ≡ make (tablesOf A [] []) canonicalise x
 unfolding canonicaliseMade afterCheck
 after-good A x e = ap (λ (o : Option TableFault). afterCheck o (make (tablesOf A [] []) canonicalise x)) e

@@ -5,14 +5,14 @@ use mathlib.Core.List.{[]}
 use mathlib.Core.Option.{none}
 use Rattle.standard.specs.Delivery.{Bytes, Made as Making}
 use Rattle.standard.specs.Calls.{Operation, maximise, minimise}
-use Rattle.standard.specs.Table.{check, tablesOf}
+use Rattle.standard.specs.Table.{check, toMaximise, tablesOf}
 use Rattle.table.specs.Search.{Sorted}
 use Rattle.canonical.specs.Tested.{Tested}
 use Rattle.standard.specs.Make.{make, afterCheck}
 
 -- tables of aliases and of likely rows that passed the check, and so ascend
 pub record TestedBoth (A L : Bytes) : Type 0 where
-  pub passes : check true false A L [] ≡ none
+  pub passes : check toMaximise A L [] ≡ none
   pub aliases : Tested A
   pub likely : Sorted L
 
@@ -22,4 +22,4 @@ operationOf true = minimise
 
 -- maximising, or minimising, with the refusals of the tables in front
 unfoldable pub wholeMade : Bool → Bytes → Bytes → Bytes → Making
-wholeMade b A L x = afterCheck (check true false A L []) (make (tablesOf A L []) (operationOf b) x)
+wholeMade b A L x = afterCheck (check toMaximise A L []) (make (tablesOf A L []) (operationOf b) x)

@@ -1,14 +1,13 @@
 -- What the chain over tested tables gives: document 01's numbers for each case of the answer. Assumes nothing.
 use mathlib.Core.Path.{_≡_}
-use mathlib.Core.Bool.{true, false, cond}
+use mathlib.Core.Bool.{cond}
 use mathlib.Core.List.{[]}
 use mathlib.Core.Option.{none}
 use Prim.Native.Nat.{_≤_}
 use lib.ListN.{length}
 use Rattle.standard.specs.Delivery.{Bytes, Given}
-use Rattle.standard.specs.Table.{check}
+use Rattle.standard.specs.Table.{check, toChain}
 use Rattle.table.specs.Search.{Sorted}
-use Rattle.canonical.specs.Form.{outcomeOf}
 use Rattle.canonical.specs.Tested.{Tested}
 use Rattle.operations.specs.Answer.{givenRefused, refusedAnswer, refusedOf}
 use Rattle.parents.specs.declared.lines.Listed.{Listed}
@@ -18,7 +17,7 @@ use Rattle.operations.specs.declared.delivery.Answer.{Answer}
 
 -- tables of aliases and of parents that passed the check, and so ascend
 pub record TestedChain (A P : Bytes) : Type 0 where
-  pub passes : check false true A [] P ≡ none
+  pub passes : check toChain A [] P ≡ none
   pub aliases : Tested A
   pub parents : Sorted P
   pub small : length P ≤ 32768
@@ -30,14 +29,14 @@ givenListed r out =
     (record { number = 10; place = 0; table = 0; len = 0; steps = 0; output = out })
 
 unfoldable pub givenAnswered : Answered → Bytes → Given
-givenAnswered (Refused c) out = givenRefused (outcomeOf c []) out
+givenAnswered (Refused r) out = givenRefused r out
 givenAnswered (Lines r) out = givenListed r out
 
 -- 01, Numbers: 0 with the listing's length and steps where it fits, else 10
 unfoldable pub listedAnswer : Listed → Answer
-listedAnswer r = cond (r .fits) (record { number = 0; table = 0; place = 0; len = r .end; steps = r .steps }) (refusedAnswer 10 0 0)
+listedAnswer r = cond (r .fits) (record { number = 0; place = 0; table = 0; len = r .end; steps = r .steps }) (refusedAnswer 10 0 0)
 
 -- where canonicalising refuses, its answer stands
 unfoldable pub answerBy : Answered → Answer
-answerBy (Refused c) = refusedOf c
+answerBy (Refused r) = refusedOf r
 answerBy (Lines r) = listedAnswer r

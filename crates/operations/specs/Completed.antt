@@ -1,8 +1,6 @@
 -- What maximising and minimising over tested tables give: document 01's numbers for each case of the answer. Assumes
 -- nothing.
-use mathlib.Core.List.{[]}
 use Rattle.standard.specs.Delivery.{Bytes, Given}
-use Rattle.canonical.specs.Form.{outcomeOf}
 use Rattle.operations.specs.Answer.{givenRefused, refusedAnswer, refusedOf}
 use Rattle.operations.specs.declared.complete.Answered.{Answered}
 use Rattle.operations.specs.declared.complete.Answered.the-variants.{Refused, Made}
@@ -12,17 +10,17 @@ use Rattle.likely.specs.declared.forms.Outcome.{Outcome}
 use Rattle.likely.specs.declared.forms.Outcome.the-variants.{Done, NoRow, Long, Short}
 
 unfoldable pub givenAnswered : Answered → Bytes → Given
-givenAnswered (Refused c) out = givenRefused (outcomeOf c []) out
+givenAnswered (Refused r) out = givenRefused r out
 givenAnswered (Made o) out = givenBy o out
 
 -- 01, Numbers: 0 with the form's length; 8, 9 and 10
 unfoldable pub outcomeAnswer : Outcome → Answer
-outcomeAnswer (Done n) = record { number = 0; table = 0; place = 0; len = n; steps = 0 }
+outcomeAnswer (Done n) = record { number = 0; place = 0; table = 0; len = n; steps = 0 }
 outcomeAnswer NoRow = refusedAnswer 8 0 0
 outcomeAnswer Long = refusedAnswer 9 0 0
 outcomeAnswer Short = refusedAnswer 10 0 0
 
 -- 01, Maximising and minimising: where canonicalising refuses, its answer stands.
 unfoldable pub answerBy : Answered → Answer
-answerBy (Refused c) = refusedOf c
+answerBy (Refused r) = refusedOf r
 answerBy (Made o) = outcomeAnswer o

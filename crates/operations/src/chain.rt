@@ -1,10 +1,15 @@
 // The chain of parents over tables that were tested. The public operation comes through here.
-use parents::lines::Listed;
-use parents::lines::list;
+use crate::delivery::Answer;
+use crate::delivery::refuse;
+use crate::delivery::refused;
 use canonical::buffer::buffer;
 use canonical::form::Canon;
 use canonical::form::Form;
+use canonical::form::NoForm;
 use canonical::form::canonical_form;
+use canonical::form::refusal_in;
+use parents::lines::Listed;
+use parents::lines::list;
 ghost use mathlib.Core.Path.{_≡_};
 ghost use mathlib.Core.List.{[]};
 ghost use Prim.Native.Nat.{_+_, _≤_};
@@ -18,13 +23,10 @@ ghost use Rattle.table.specs.Search.{Sorted};
 ghost use Rattle.parents.specs.Texts.{chainText};
 ghost use Rattle.parents.specs.Listed.{Lists};
 ghost use Rattle.operations.specs.Chained.{TestedChain, givenAnswered, listedAnswer, answerBy};
-use crate::delivery::Answer;
-use crate::delivery::refuse;
-use crate::delivery::refused;
 
 // The refusal of canonicalising, which stands, or the listing.
 pub enum Answered {
-    Refused(Canon),
+    Refused(NoForm),
     Lines(Listed),
 }
 
@@ -37,7 +39,8 @@ fn list_form<'a>(
     out: &mut [u8],
 ) -> Listed
     requires { ⌜ (f .variants ≤ length (now buf)) × (length (now buf) ≤ 512) × (f .count ≤ 255) × (length (now parents) ≤ 32768) × (now root ≡ und) ⌝ }
-    ensures { λ r. ⌜ (Sorted (now (parents .entry)) → Lists 0 (now (out .entry)) (chainText (now (parents .entry)) (f .count + 10) (f .count) (take (f .variants) (now (buf .entry)))) r (now (out .exit))) ⌝ }
+    ensures { λ r. let out′ = now (out .exit) in let parents = now (parents .entry) in let out = now (out .entry) in let buf = now (buf .entry) in
+        ⌜ (Sorted parents → Lists 0 out (chainText parents (f .count + 10) (f .count) (take (f .variants) buf)) r out′) ⌝ }
 {
     let n = f.variants;
     let count = f.count;
@@ -47,13 +50,15 @@ fn list_form<'a>(
 // The chain of an identifier: it first canonicalises.
 pub fn chain_tested(id: &[u8], aliases: &[u8], parents: &[u8], out: &mut [u8]) -> Answered
     requires { ⌜ TestedChain (now aliases) (now parents) ⌝ }
-    ensures { λ r. ⌜ givenAnswered r (now (out .exit)) ≡ given (chainFrom (tablesOf (now (aliases .entry)) [] (now (parents .entry))) (read (now (id .entry)))) (now (out .entry)) ⌝ }
+    ensures { λ r. let out′ = now (out .exit) in let aliases = now (aliases .entry) in let parents = now (parents .entry) in
+        let id = now (id .entry) in let out = now (out .entry) in
+        ⌜ givenAnswered r out′ ≡ given (chainFrom (tablesOf aliases [] parents) (read id)) out ⌝ }
 {
     let mut buf = buffer();
     let none = [0u16; 1];
     let c = canonical_form(id, aliases, &none[..0], &mut buf);
     let Canon::Formed(f) = c else {
-        return Answered::Refused(c);
+        return Answered::Refused(refusal_in(c));
     };
     Answered::Lines(list_form(&buf, f, parents, b"und", out))
 }
@@ -70,8 +75,8 @@ fn listed_answer(l: Listed) -> Answer
     }
     Answer {
         number: 0,
-        table: 0,
         place: 0,
+        table: 0,
         len,
         steps,
     }
@@ -82,7 +87,7 @@ pub fn answer(a: Answered) -> Answer
     ensures { λ r. ⌜ r ≡ answerBy a ⌝ }
 {
     match a {
-        Answered::Refused(c) => refused(c),
+        Answered::Refused(r) => refused(r),
         Answered::Lines(l) => listed_answer(l),
     }
 }

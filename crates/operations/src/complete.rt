@@ -1,10 +1,15 @@
 // Maximising and minimising over tables that were tested. The public operations and the programs come through here.
-use likely::forms::Outcome;
-use likely::forms::form_by_parts;
+use crate::delivery::Answer;
+use crate::delivery::refuse;
+use crate::delivery::refused;
 use canonical::buffer::buffer;
 use canonical::form::Canon;
 use canonical::form::Form;
+use canonical::form::NoForm;
 use canonical::form::canonical_form;
+use canonical::form::refusal_in;
+use likely::forms::Outcome;
+use likely::forms::form_by_parts;
 ghost use mathlib.Core.Path.{_≡_};
 ghost use mathlib.Core.List.{List, []};
 ghost use Prim.Native.Nat.{ℕ, _≤_};
@@ -18,13 +23,10 @@ ghost use Rattle.likely.specs.Forms.{givenBy, madeParts, ReadyFor};
 ghost use Rattle.operations.specs.Slices.{Slices};
 ghost use Rattle.operations.specs.Completed.{givenAnswered, outcomeAnswer, answerBy};
 ghost use Rattle.operations.specs.Both.{TestedBoth, operationOf};
-use crate::delivery::Answer;
-use crate::delivery::refuse;
-use crate::delivery::refused;
 
 // The refusal of canonicalising, which stands, or what was made.
 pub enum Answered {
-    Refused(Canon),
+    Refused(NoForm),
     Made(Outcome),
 }
 
@@ -38,8 +40,9 @@ pub fn from_form<'a>(
     out: &mut [u8],
 ) -> Outcome
     requires { ⌜ (f .language ≤ f .script) × (f .script ≤ f .region) × (f .region ≤ f .len) × (f .len ≤ length (now buf)) ⌝ }
-    ensures { λ r. ⌜ ((p : Parts) → (rest : List ℕ) → Slices (now (buf .entry)) (p .language) (p .script) (p .region) rest (f .language) (f .script) (f .region) (f .len) → ReadyFor (now (likely .entry)) (now (hints .entry)) p
-        → givenBy r (now (out .exit)) ≡ given (madeParts shorten (now (likely .entry)) rest p) (now (out .entry))) ⌝ }
+    ensures { λ r. let out′ = now (out .exit) in let buf = now (buf .entry) in let likely = now (likely .entry) in let hints = now (hints .entry) in
+        let out = now (out .entry) in
+        ⌜ ((p : Parts) → (rest : List ℕ) → Slices buf (p .language) (p .script) (p .region) rest (f .language) (f .script) (f .region) (f .len) → ReadyFor likely hints p → givenBy r out′ ≡ given (madeParts shorten likely rest p) out) ⌝ }
 {
     let l = f.language;
     let s = f.script;
@@ -69,12 +72,14 @@ pub fn form_hinted(
     out: &mut [u8],
 ) -> Answered
     requires { ⌜ TestedBoth (now aliases) (now likely) × Hinted (now aliases) (now «alias_hints») × Hinted (now likely) (now «likely_hints») ⌝ }
-    ensures { λ r. ⌜ givenAnswered r (now (out .exit)) ≡ given (make (tablesOf (now (aliases .entry)) (now (likely .entry)) []) (operationOf shorten) (now (id .entry))) (now (out .entry)) ⌝ }
+    ensures { λ r. let out′ = now (out .exit) in let aliases = now (aliases .entry) in let likely = now (likely .entry) in let id = now (id .entry) in
+        let out = now (out .entry) in
+        ⌜ givenAnswered r out′ ≡ given (make (tablesOf aliases likely []) (operationOf shorten) id) out ⌝ }
 {
     let mut buf = buffer();
     let c = canonical_form(id, aliases, alias_hints, &mut buf);
     let Canon::Formed(f) = c else {
-        return Answered::Refused(c);
+        return Answered::Refused(refusal_in(c));
     };
     Answered::Made(from_form(shorten, &buf, f, likely, likely_hints, out))
 }
@@ -88,7 +93,9 @@ pub fn form_tested(
     out: &mut [u8],
 ) -> Answered
     requires { ⌜ TestedBoth (now aliases) (now likely) ⌝ }
-    ensures { λ r. ⌜ givenAnswered r (now (out .exit)) ≡ given (make (tablesOf (now (aliases .entry)) (now (likely .entry)) []) (operationOf shorten) (now (id .entry))) (now (out .entry)) ⌝ }
+    ensures { λ r. let out′ = now (out .exit) in let aliases = now (aliases .entry) in let likely = now (likely .entry) in let id = now (id .entry) in
+        let out = now (out .entry) in
+        ⌜ givenAnswered r out′ ≡ given (make (tablesOf aliases likely []) (operationOf shorten) id) out ⌝ }
 {
     let none = [0u16; 1];
     let empty = &none[..0];
@@ -102,8 +109,8 @@ fn outcome_answer(o: Outcome) -> Answer
     match o {
         Outcome::Done(len) => Answer {
             number: 0,
-            table: 0,
             place: 0,
+            table: 0,
             len,
             steps: 0,
         },
@@ -118,7 +125,7 @@ pub fn answer(a: Answered) -> Answer
     ensures { λ r. ⌜ r ≡ answerBy a ⌝ }
 {
     match a {
-        Answered::Refused(c) => refused(c),
+        Answered::Refused(r) => refused(r),
         Answered::Made(o) => outcome_answer(o),
     }
 }

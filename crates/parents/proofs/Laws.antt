@@ -9,19 +9,19 @@ use borrow.Author.Tests.{lt-ltb, le-ltb, eq-eqb}
 use lib.Dec.{eqb, ltb}
 use lib.ListN.{length, getD, take, length-append}
 use lib.Seq.{take-append-seam, getD-append-seam, getD-append-add}
-use Rattle.standard.specs.Tag.{Tag, order, same, present}
+use Rattle.standard.specs.Tag.{Tag, order, same, present, All}
 use Rattle.standard.specs.Grammar.{flat, title, upper, aScript, aRegion, isLanguage, languageSize, sizeOf, every, small}
 use Rattle.standard.specs.Identifier.{Three, three, und, Identifier, Tables}
 use Rattle.standard.specs.Reading.{optional, rest, tags, joined, print}
 use Rattle.standard.specs.Delivery.{Bytes}
 use Rattle.standard.specs.Chain.{Line, line, allButLast, shorter, parentOf, parent, isUndAlone, chain}
-use Rattle.standard.specs.Table.{lookup, rows, parse, parsed, printThree, tablesOf, check}
+use Rattle.standard.specs.Table.{lookup, rows, parse, parsed, printThree, tablesOf, check, toCheck}
 use Rattle.standard.specs.Make.{identifier, printLine}
-use Rattle.standard.proofs.Tags.{All, Ascending, same-eq}
+use Rattle.standard.proofs.Tags.{Ascending, same-eq}
 use Rattle.standard.proofs.Faults.{Variants}
 use Rattle.standard.proofs.Sound.{shown-none}
 use Rattle.standard.proofs.Dashes.{NoDash, printed-dash}
-use Rattle.standard.proofs.Bytes.{clash, bool-cases}
+use Rattle.standard.proofs.General.{clash, bool-cases}
 use Rattle.standard.proofs.Split.{AllPrinted, no-tag, tag}
 use Rattle.standard.proofs.Round.{Printable, all-printed, language-printed}
 use Rattle.standard.proofs.Lines.{Plain, plain-printable, parent-plain, print-injective}
@@ -175,7 +175,7 @@ root-plain : Plain rootLine
 unfolding All Ascending Variants title upper isLanguage languageSize sizeOf every small
 root-plain = record { core = record { language = refl; script = shown-none aScript title refl; region = shown-none aRegion upper refl }; variants = tt; words = tt; ascend = tt }
 
-module _ (A L P : Bytes) (pass : check true true A L P ≡ none) where
+module _ (A L P : Bytes) (pass : check toCheck A L P ≡ none) where
   abbrev T : Tables
   T = tablesOf A L P
 

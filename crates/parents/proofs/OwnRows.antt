@@ -6,14 +6,13 @@ use mathlib.Core.List.{List}
 use Prim.Native.Nat.{ℕ, _+_, _-_, _≤_}
 use native.Mathlib.Omega.{arith}
 use lib.ListN.{length}
-use Rattle.standard.specs.Table.{rows, parentShape, Found as Located, located}
-use Rattle.standard.proofs.Table.{Pass}
+use Rattle.standard.specs.Table.{rows, parentShape, Found as Located, located, Pass}
 use Rattle.table.specs.Lines.{foundIs, rowAt}
 use Rattle.table.specs.Hints.{slotFrom, hintAt, OpensIs, Seen, Indexed}
 use Rattle.table.specs.declared.Found.{Found}
 use Rattle.table.proofs.Hinting.{leads-at, hint-alone, seen-hit}
 use Rattle.parents.specs.Walk.{cut, OwnRow, ParentAt}
-use Rattle.parents.proofs.Walks.{cut-size, parent-row}
+use Rattle.parents.proofs.Walks.{cut-length as cut-size, parent-row}
 
 module _ (p hints : List ℕ) (i k e : ℕ) (h : Indexed p hints) (pass : Pass parentShape (rows p)) (w : OwnRow p i k e) where
   x : List ℕ

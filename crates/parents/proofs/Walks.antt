@@ -1,38 +1,31 @@
 -- The walk of parents over texts, as parts of the table.
 -- Assumes nothing.
-use mathlib.Core.Path.{_≡_, refl, sym, ap, ap₂, _∙_}
-use mathlib.Core.Bool.{Bool, true, false, not, _&&_}
+use mathlib.Core.Path.{_≡_, refl, sym, ap, _∙_}
+use mathlib.Core.Bool.{true, false, not, _&&_}
 use mathlib.Core.Logic.{inl}
 use mathlib.Core.List.{List, [], _∷_, _++_, append-nil, append-assoc}
-use mathlib.Core.Option.{Option, none, some, Option·none-ne-some}
 use Prim.Native.Nat.{ℕ, zero, suc, _+_, _-_, _≤_, _<_}
 use native.Mathlib.Omega.{arith}
-use lib.Dec.{eqb}
 use lib.ListN.{length, take, drop, length-append, length-take, length-drop}
 use lib.Seq.{take-at, take-take}
-use borrow.Author.Tests.{eqb-true}
-use Rattle.standard.specs.Tag.{Tag, order, same, present, onto}
+use Rattle.standard.specs.Tag.{Tag, order, same, present, onto, All}
 use Rattle.standard.specs.Identifier.{Three as Subtags, three, und, Tables}
 use Rattle.standard.specs.Chain.{Line, line, shorter, parentOf, parent, isUndAlone, reaches}
 use Rattle.standard.specs.Reading.{optional, joined}
-use Rattle.standard.specs.Table.{pieces, after, lookup, rows, located, findInCase, threeOf, parse, printThree, isThree, parsed, tablesOf, parentShape}
-use Rattle.standard.proofs.Tags.{All, same-eq, same-refl}
-use Rattle.standard.proofs.Table.{Pass}
-use Rattle.standard.proofs.Bytes.{bool-cases, clash, and-true}
+use Rattle.standard.specs.Table.{pieces, lookup, rows, located, findInCase, threeOf, parse, printThree, isThree, parsed, tablesOf, parentShape, Pass}
+use Rattle.standard.proofs.Tags.{same-eq, same-refl}
+use Rattle.standard.proofs.General.{bool-cases, and-true, both-ways, no, none-there as not-present}
 use Rattle.table.specs.declared.Found.{Found}
 use Rattle.table.specs.Lines.{foundIs, valueOf, valueIf}
 use Rattle.table.proofs.Lines.{lookup-located, cut-value, cut-found}
-use Rattle.row_shapes.specs.declared.three.Three.{Three}
+use Rattle.row_shapes.specs.declared.lsr.Three.{Three}
 use Rattle.row_shapes.specs.Shapes.{between, ThreeAt}
-use Rattle.row_shapes.proofs.Tags.{both-ways}
 use Rattle.row_shapes.proofs.Texts.{one-piece}
 use Rattle.row_shapes.proofs.Pieces.{Free, pieces-more, pieces-free}
 use Rattle.parents.specs.declared.walk.Parent.{Parent}
 use Rattle.parents.specs.Walk.{cut, ValueOk, ShorterAt, ParentAt, reachesFrom}
-use Rattle.row_shapes.proofs.Threes.{ThreeOk, three-ok, print-is-three, parse-print, three-text}
-
-no : {P : Type 0} → false ≡ true → P
-no e = clash {b = true} refl (sym e)
+use Rattle.row_shapes.proofs.Threes.{ThreeOk, three-ok, print-is-three, parse-print}
+use Rattle.standard.proofs.Table.{three-printed as three-text, row-test as row-shape}
 
 -- Only the parents count in a walk.
 pub reaches-parents : (A L B M P : List ℕ) (n : ℕ) (l : Line) → reaches (tablesOf A L P) n l ≡ reaches (tablesOf B M P) n l
@@ -56,11 +49,6 @@ module _ (P x : List ℕ) (e : isThree x ≡ true) where
   pub parent-none : (located P x) .found ≡ false → parent W (line (parse x) []) ≡ line (shorter (parse x)) []
   unfolding parent parentOf parsed
   parent-none f = rw (parents-is, f)
-
-not-present : (t : Tag) → not (present t) ≡ true → t ≡ []
-unfolding present
-not-present [] e = refl
-not-present (b ∷ bs) e = no e
 
 -- the end of the walk
 root-text : (t : Subtags) → isUndAlone (line t []) ≡ true → printThree t ≡ und
@@ -155,33 +143,6 @@ module _ (x : List ℕ) (r : Three) (t : ThreeAt x r) (e : isThree x ≡ true) w
       drops [] (c ∷ cs) h k = absurd (omega arith)
       drops [] [] h k = refl
 
--- A value that was found in a table that passed.
-after-eq : (p x v : List ℕ) → after p x ≡ some v → x ≡ p ++ v
-unfolding after
-after-eq [] x v e = cc
-after-eq (p ∷ ps) [] v e = absurd (Option·none-ne-some v e)
-after-eq (p ∷ ps) (x ∷ xs) v e = bool-cases (eqb p x) (λ f. ap₂ _∷_ (sym (eqb-true p x f)) (after-eq ps xs v (rw (f, after) at e))) (λ f. absurd (Option·none-ne-some v (rw (f, after) at e)))
-
-no-empty-row : (k : List ℕ) → lookup ([] ∷ []) k ≡ none
-unfolding lookup after
-no-empty-row [] = refl
-no-empty-row (b ∷ bs) = refl
-
-row-shape : (test : List Tag → Bool) (ls : List Tag) (k v : List ℕ) → Pass test ls → lookup ls k ≡ some v → test (pieces 9 (k ++ (9 ∷ v))) ≡ true
-unfolding Pass lookup
-row-shape test [] k v e f = absurd (Option·none-ne-some v f)
-row-shape test (l ∷ []) k v e f = absurd (Option·none-ne-some v (sym (no-empty-row k) ∙ (rw e at f)))
-row-shape test (l ∷ m ∷ ls) k v e f = go (after (k ++ (9 ∷ [])) l) refl (row-shape test (m ∷ ls) k v (e .1))
-  where
-    go : (o : Option (List ℕ)) → after (k ++ (9 ∷ [])) l ≡ o
-        → (lookup (m ∷ ls) k ≡ some v → test (pieces 9 (k ++ (9 ∷ v))) ≡ true) → test (pieces 9 (k ++ (9 ∷ v))) ≡ true
-    go none g next = next (rw (g, lookup) at f)
-    go (some w) g next =
-        let a : l ≡ (k ++ (9 ∷ [])) ++ w = after-eq (k ++ (9 ∷ [])) l w g in
-        let c : _≡_ {A = Option (List ℕ)} (some w) (some v) = rw (g, lookup) at f in
-        let d : w ≡ v = cc in
-        ap (λ (x : List ℕ). test (pieces 9 x)) (sym (a ∙ (append-assoc k (9 ∷ []) w ∙ ap (λ (x : List ℕ). k ++ (9 ∷ x)) d))) ∙ e .0
-
 value-ok : (x v : List ℕ) → Free 9 x → parentShape (pieces 9 (x ++ (9 ∷ v))) ≡ true → ValueOk v
 unfolding parentShape All
 value-ok x v f e = go (pieces 9 v) refl (rw (pieces-more 9 x v f) at e) (rw (pieces-more 9 x v f) at (pieces-free 9 (x ++ (9 ∷ v))))
@@ -219,10 +180,10 @@ und-reached T zero = und-root
 und-reached T (suc n) = rw (und-root, reaches)
 
 -- The answers of the code.
-cut-cut : (p : List ℕ) (at end e : ℕ) → e ≤ end - at → cut p at (at + e) ≡ take e (cut p at end)
+pub cut-cut : (p : List ℕ) (at end e : ℕ) → e ≤ end - at → cut p at (at + e) ≡ take e (cut p at end)
 cut-cut p at end e h = let z : at + e - at ≡ e = omega arith in ap (λ (n : ℕ). take n (drop at p)) z ∙ sym (take-take e (end - at) (drop at p) h)
 
-cut-length : (p : List ℕ) (at end : ℕ) → at ≤ end → end ≤ length p → length (cut p at end) ≡ end - at
+pub cut-length : (p : List ℕ) (at end : ℕ) → at ≤ end → end ≤ length p → length (cut p at end) ≡ end - at
 cut-length p at end h k = simp (length-take, length-drop) (omega arith)
 
 free-take : (n : ℕ) (s : Tag) → Free 9 s → Free 9 (take n s)
@@ -295,10 +256,3 @@ module _ (p : List ℕ) (at end : ℕ) (low : at ≤ end) (high : end ≤ length
     pub reach-next : d .root ≡ false → reachesFrom p n x ≡ reachesFrom p (n - 1) (cut p (d .at) (d .end))
     unfolding reachesFrom
     reach-next f = ap (λ (m : ℕ). reaches (tablesOf [] [] p) m (line (parse x) [])) less ∙ walk-next p x (n - 1) (line (parse (cut p (d .at) (d .end))) []) (v .three) s (k .next f)
-
--- the key, as the code cuts it
-pub key-cut : (p : List ℕ) (i e x : ℕ) → x ≤ e - i → cut p i (i + x) ≡ take x (cut p i e)
-key-cut p i e x h = let z : i + x - i ≡ x = omega arith in ap (λ (n : ℕ). take n (drop i p)) z ∙ sym (take-take x (e - i) (drop i p) h)
-
-pub cut-size : (p : List ℕ) (i e : ℕ) → i ≤ e → e ≤ length p → length (cut p i e) ≡ e - i
-cut-size p i e h k = simp (length-take, length-drop) (omega arith)

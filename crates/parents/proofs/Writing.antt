@@ -11,7 +11,7 @@ use lib.ListN.{length, getD, take, drop, set, length-append, length-drop}
 use lib.Seq.{sets, sets-eq, length-sets, length-take-le, take-append-le, take-take, drop-append-seam}
 use Rattle.standard.specs.Tag.{same}
 use Rattle.standard.specs.Identifier.{und}
-use Rattle.standard.proofs.Bytes.{clash}
+use Rattle.standard.proofs.General.{clash}
 use Rattle.standard.specs.Delivery.{Bytes}
 use Rattle.standard.specs.Table.{listing, lookup, rows, located}
 use Rattle.table.specs.declared.Found.{Found}

@@ -9,7 +9,7 @@ use lib.ListN.{length, take, drop}
 use Rattle.standard.specs.Identifier.{three, und}
 use Rattle.standard.specs.Chain.{line, shorter, parent, reaches}
 use Rattle.standard.specs.Table.{parse, isThree, tablesOf}
-use Rattle.standard.proofs.Tags.{All}
+use Rattle.standard.specs.Tag.{All}
 use Rattle.byte_string.specs.Strings.{endOf}
 use Rattle.table.specs.Lines.{starts}
 use Rattle.parents.specs.declared.walk.Parent.{Parent}

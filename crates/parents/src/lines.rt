@@ -9,8 +9,8 @@ ghost use lib.ListN.{length};
 ghost use lib.Seq.{sets};
 ghost use Rattle.standard.specs.Identifier.{und};
 ghost use Rattle.table.specs.Search.{Sorted};
-ghost use Rattle.parents.specs.Texts.{lastDash, rowText, parentText, chainText};
 ghost use Rattle.table.specs.Lines.{valueOr, isFound};
+ghost use Rattle.parents.specs.Texts.{lastDash, rowText, parentText, chainText};
 ghost use Rattle.parents.specs.Listed.{Bounded, Lists, listedOf, outAfter, added, outAdded};
 
 // Whether a listing fits, where it ends, and its steps.
@@ -36,7 +36,8 @@ fn last_dash(id: &[u8]) -> usize
 
 // The value of the row of a line with so many variants, as a part of the lent table; a key has no variants.
 fn row_of<'a>(parents: &'a [u8], id: &[u8], variants: usize, found: &mut bool) -> &'a [u8]
-    ensures { λ r. ⌜ (length (now r) ≤ length (now (parents .entry))) × (Sorted (now (parents .entry)) → now r ≡ valueOr (rowText (now (parents .entry)) variants (now (id .entry)))) ⌝ }
+    ensures { λ r. let parents = now (parents .entry) in let id = now (id .entry) in
+        ⌜ (length (now r) ≤ length parents) × (Sorted parents → now r ≡ valueOr (rowText parents variants id)) ⌝ }
     ensures { λ _. ⌜ (Sorted (now (parents .entry)) → now (found .exit) ≡ isFound (rowText (now (parents .entry)) variants (now (id .entry)))) ⌝ }
 {
     if 0 < variants {
@@ -142,8 +143,8 @@ pub fn list<'a>(
     at: usize,
 ) -> Listed
     requires { ⌜ (length (now id) ≤ 32768) × (length (now parents) ≤ 32768) × (now root ≡ und) × (at + allowed * 32769 ≤ 4294967296) × (allowed ≤ 1000) ⌝ }
-    ensures { λ r. ⌜ Bounded allowed at (now (id .entry)) (now (out .entry)) r (now (out .exit))
-        × (Sorted (now (parents .entry)) → Lists at (now (out .entry)) (chainText (now (parents .entry)) allowed variants (now (id .entry))) r (now (out .exit))) ⌝ }
+    ensures { λ r. let out′ = now (out .exit) in let id = now (id .entry) in let out = now (out .entry) in let parents = now (parents .entry) in
+        ⌜ Bounded allowed at id out r out′ × (Sorted parents → Lists at out (chainText parents allowed variants id) r out′) ⌝ }
 {
     if allowed == 0 {
         return last_line(id, out, at);

@@ -6,9 +6,8 @@ use table::hints::slot_from;
 ghost use mathlib.Core.Path.{_≡_};
 ghost use Prim.Native.Nat.{_≤_};
 ghost use lib.ListN.{length};
-ghost use Rattle.standard.specs.Table.{rows, parentShape};
+ghost use Rattle.standard.specs.Table.{rows, parentShape, Pass};
 ghost use Rattle.table.specs.Hints.{Indexed};
-ghost use Rattle.standard.proofs.Table.{Pass};
 ghost use Rattle.parents.specs.Walk.{cut, ValueOk, OwnRow, ShorterAt, ParentAt, reachesFrom};
 
 // A parent: `und`, or the text of the table from at to end.
@@ -23,7 +22,7 @@ fn shorter(p: &[u8], at: usize, end: usize) -> Parent
     requires { ⌜ (at ≤ end) × (end ≤ length (now p)) × ValueOk (cut (now p) at end) ⌝ }
     ensures { λ r. ⌜ ShorterAt (now (p .entry)) at end r ⌝ }
 {
-    let t = row_shapes::three::ends_of(&p[at..end]);
+    let t = row_shapes::lsr::ends_of(&p[at..end]);
     let l = t.language;
     let e = t.script;
     let n = end - at;

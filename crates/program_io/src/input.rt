@@ -1,17 +1,22 @@
 // Standard input, handed over in pieces of whole lines, to the programs that answer line by line.
 use libc::STDIN_FILENO;
+use lines::Taken;
 ghost use mathlib.Core.Path.{_≡_};
-ghost use Prim.Native.Nat.{_+_, _≤_, _<_};
-ghost use lib.ListN.{length};
-ghost use Rattle.program_io.specs.Handed.{Handed};
+ghost use mathlib.Core.List.{List, []};
+ghost use Prim.Native.Nat.{_+_, _≤_};
+ghost use lib.ListN.{length, take};
+ghost use Rattle.lines.specs.Squeeze.{Bytes};
+ghost use Rattle.lines.specs.Reader.{Placed};
+ghost use Rattle.io.specs.Counts.{Counts};
+ghost use Rattle.program_io.specs.Handed.{Room, Going, Handed, Counted};
 
-// Where the whole lines of the piece end, and where the unfinished one behind them does; and how often the next block may
-// be asked for: not at all behind the end of the input. A proved loop has to end, so this goes down from a number that no
-// run uses up.
+// Where the lines of the piece end; how many bytes of the block were read last, and how many in all; and whether the input
+// has ended. Only `begin` and `next` make one, so a program that has one which ended has read to the end.
 pub struct Input {
-    pub whole: usize,
-    pub end: usize,
-    pub turns: u64,
+    taken: Taken,
+    got: usize,
+    bytes: usize,
+    ended: bool,
 }
 
 // Room for a block of input. The larger it is, the less the test of the tables costs a line.
@@ -28,37 +33,60 @@ pub fn piece_buffer() -> [u8; 262404]
     [0; 262404]
 }
 
-// Nothing was read yet.
+// Nothing was read yet, whatever stands in the piece.
 pub fn begin() -> Input
-    ensures { λ r. ⌜ Handed r 0 ⌝ }
+    ensures { λ r. ⌜ Placed (r .taken) 0 × ((piece : Bytes) → Going [] r piece) ⌝ }
 {
+    let taken = Taken { whole: 0, end: 0 };
     Input {
-        whole: 0,
-        end: 0,
-        turns: u64::MAX,
+        taken,
+        got: 0,
+        bytes: 0,
+        ended: false,
     }
 }
 
-// Reads a block, and takes it in behind the unfinished line, which moves to the front of the piece. At the end of the
-// input the unfinished line is handed over as it is.
-pub fn next(i: Input, block: &mut [u8], piece: &mut [u8]) -> Input
-    requires { ⌜ (0 < i .turns) × Handed i (length (now piece)) × (260 + length (now block) ≤ length (now piece)) ⌝ }
-    ensures { λ r. ⌜ (r .turns < i .turns) × Handed r (length (now (piece .entry))) ⌝ }
+// Where the whole lines at the front of the piece end.
+pub fn whole(i: Input) -> usize
+    ensures { λ r. ⌜ r ≡ i .taken .whole ⌝ }
 {
-    let kept = lines::keep_rest(piece, i.whole, i.end);
-    let got = libc::read(STDIN_FILENO, block);
-    let n = io::count(got, block);
-    if n == 0 {
-        return Input {
-            whole: kept,
-            end: kept,
-            turns: 0,
-        };
+    let t = i.taken;
+    t.whole
+}
+
+// Has the input ended?
+pub fn is_ended(i: Input) -> bool
+    ensures { λ r. ⌜ r ≡ i .ended ⌝ }
+{
+    i.ended
+}
+
+// Reads a block, and gives how many bytes it has: 0 at the end of the input. That it calls the operating system, no promise
+// can say. A proved loop has to end: at 2^64 bytes, which no run reads, the input counts as ended.
+fn read_block(bytes: usize, block: &mut [u8]) -> usize
+    ensures { λ r. ⌜ Counts r (now (block .exit)) × (bytes + r ≤ 18446744073709551615) ⌝ }
+{
+    if usize::MAX - bytes < block.len() {
+        return 0;
     }
-    let t = lines::take_in(&block[..n], piece, kept);
+    let got = libc::read(STDIN_FILENO, block);
+    io::count(got, block)
+}
+
+// Reads the next block: its whole lines stand at the front of the piece, and the unfinished one behind them; at the end of
+// the input the unfinished line stands there.
+pub fn next(i: Input, block: &mut [u8], piece: &mut [u8]) -> Input
+    requires { ⌜ Placed (i .taken) (length (now piece)) × Room (length (now block)) (length (now piece)) ⌝ }
+    ensures { λ r. ⌜ Placed (r .taken) (length (now (piece .entry))) × Counted i r (length (now (block .entry)))
+        × ((bs : List Bytes) → Going bs i (now (piece .entry)) → Handed bs (take (r .got) (now (block .exit))) r (now (piece .exit))) ⌝ }
+{
+    let before = i.taken;
+    let got = read_block(i.bytes, block);
+    let taken = lines::next_piece(before, &block[..got], piece);
     Input {
-        whole: t.whole,
-        end: t.end,
-        turns: i.turns - 1,
+        taken,
+        got,
+        bytes: i.bytes + got,
+        ended: got == 0,
     }
 }

@@ -1,9 +1,9 @@
 // Tables opened by the programs, in the current folder. A file that can't be opened counts as zero bytes.
 pub mod input;
 
+use libc::STDOUT_FILENO;
 use tsv::Text;
 use tsv::table_line;
-use libc::STDOUT_FILENO;
 ghost use mathlib.Core.Path.{_≡_};
 ghost use lib.ListN.{length};
 ghost use Rattle.tsv.specs.Fields.{tableText, textIs};
@@ -30,10 +30,10 @@ pub fn load(path: &[u8], buffer: &mut [u8]) -> usize
 }
 
 // Prints the line of the tables' check: `table`, number, table, place; and answers what it printed.
-pub fn print_table(number: u8, table: u8, place: usize) -> Text
-    ensures { λ r. ⌜ textIs r ≡ tableText number table place ⌝ }
+pub fn print_table(number: u8, place: usize, table: u8) -> Text
+    ensures { λ r. ⌜ textIs r ≡ tableText number place table ⌝ }
 {
-    let t = table_line(number, table, place);
+    let t = table_line(number, place, table);
     let len = t.len;
     let bytes = t.bytes;
     io::write_all(STDOUT_FILENO, &bytes[..len]);

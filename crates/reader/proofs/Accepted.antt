@@ -9,22 +9,21 @@ use Prim.Native.Nat.{ℕ, suc, _+_, _-_, _≤_, _<_}
 use native.Mathlib.Omega.{arith}
 use lib.ListN.{length, drop, length-drop, length-append}
 use lib.Seq.{drop-drop}
-use Rattle.standard.specs.Tag.{Tag, same, headTag}
+use Rattle.standard.specs.Tag.{Tag, same, headTag, All}
 use Rattle.standard.specs.Grammar.{Kind, aScript, aRegion, aVariant, aNone, kindOf, isLanguage, isVariant, isSingleton, flat, only}
 use Rattle.standard.specs.Identifier.{three, part, parts}
 use Rattle.standard.specs.Reading.{noBytes, tooLong, unclean, badTag, wrongSize, optional, split, root, start, partFault, noLanguage, isX, upTo, from, grammarFault, faultOf, find, coreOf, afterFirst, identifierOf}
-use Rattle.standard.proofs.Bytes.{bool-cases}
-use Rattle.standard.proofs.Tags.{All}
+use Rattle.standard.proofs.General.{bool-cases, le-or-lt}
 use Rattle.standard.proofs.Faults.{none-badTag}
 use Rattle.standard.proofs.Arranged.{firstOf-none}
 use Rattle.subtag.specs.Subtags.{PlainTag}
 use Rattle.subtag.proofs.Keys.{split-words}
-use Rattle.subtag.proofs.Walk.{split-next, split-end, le-or-lt}
+use Rattle.subtag.proofs.Walk.{split-next, split-end}
 use borrow.Author.Tests.{lt-ltb, le-ltb}
 use Rattle.reader.specs.declared.Parts.{Parts}
 use Rattle.reader.specs.Cuts.{languageCut, cutsAfter, cutsOf}
 use Rattle.reader.specs.Parts.{startOf, partsOf}
-use Rattle.subtag.specs.Bytes.{raised}
+use Rattle.subtag.specs.Bytes.{cased}
 use Rattle.subtag.proofs.Raised.{raised-nil}
 use Rattle.reader.specs.Words.{laterWord, LaterFits}
 use Rattle.reader.proofs.Bodies.{body, heads}
@@ -126,7 +125,7 @@ parts-optional (b ∷ bs) = omega arith
 -- a subtag that may be absent, behind others
 pub record Later (x : List ℕ) (from to : ℕ) (t : Tag) : Type 0 where
   pub fits : LaterFits from to x
-  pub word : (n : ℕ) → laterWord n from to x ≡ raised n t
+  pub word : (n : ℕ) → laterWord n from to x ≡ cased n t
   pub short : length t ≤ 8
 
 later-is : (x : List ℕ) (u : List Tag) (t : Tag) (v : List Tag) (from to : ℕ) → All Fine (split x) → split x ≡ u ++ (optional t ++ v) → parts u ≡ from + 1 → to ≡ from + part t → Later x from to t
@@ -137,7 +136,7 @@ later-is x u (b ∷ bs) v from to a e f g =
     let w = all-at u (b ∷ bs) v (subst (λ (ts : List Tag). All Fine ts) e a) in
     let p = place-from u (b ∷ bs) v x e (w .plain .1) in
     let i : headTag (split (drop (from + 1) x)) ≡ b ∷ bs = ap (λ (n : ℕ). headTag (split (drop n x))) (sym f) ∙ p .is in
-    record { fits = record { fits = λ h. let k = p .fits in omega arith; short = λ h. rw i (p .short) }; word = λ n. rw (lt-ltb from to (omega arith), laterWord) (ap (raised n) i); short = p .short }
+    record { fits = record { fits = λ h. let k = p .fits in omega arith; short = λ h. rw i (p .short) }; word = λ n. rw (lt-ltb from to (omega arith), laterWord) (ap (cased n) i); short = p .short }
 
 pub others-of : (t : Tag) (ts : List Tag) → Core t ts → Others ts
 unfolding find only optional

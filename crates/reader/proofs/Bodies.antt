@@ -6,12 +6,12 @@ use mathlib.Core.Option.{Option}
 use Prim.Native.Nat.{ℕ, _+_}
 use native.Mathlib.Omega.{arith}
 use lib.ListN.{length}
-use Rattle.standard.specs.Tag.{Tag, same}
-use Rattle.standard.specs.Grammar.{isSingleton, isFieldKey, sizeOf, oneSize, xTag, Groups, withTag, grouped, flat}
+use Rattle.standard.specs.Tag.{Tag}
+use Rattle.standard.specs.Grammar.{isSingleton, isFieldKey, sizeOf, oneSize, Groups, withTag, grouped, flat}
 use Rattle.standard.specs.Identifier.{parts}
 use Rattle.standard.specs.Reading.{Fault, firstOf, isX, upTo, from, groupsFault, extensionFault, privateFault}
-use Rattle.standard.proofs.Bytes.{clash, bool-cases}
-use Rattle.standard.proofs.Tags.{same-eq}
+use Rattle.standard.proofs.General.{clash, bool-cases}
+use Rattle.standard.proofs.Shapes.{single-not-x}
 
 -- before the next singleton; the extensions from it on; of a `t` extension, before the next key, and the fields from it on
 unfoldable pub body : List Tag → List Tag
@@ -25,10 +25,6 @@ ahead b = (grouped isFieldKey b) .before
 
 unfoldable pub fields : List Tag → List (List Tag)
 fields b = (grouped isFieldKey b) .groups
-
-pub single-not-x : (t : Tag) → isSingleton t ≡ false → isX t ≡ false
-unfolding isX isSingleton oneSize sizeOf
-single-not-x t e = bool-cases (same t xTag) (λ f. clash {b = true} refl (rw (same-eq t xTag f) at e)) (λ f. f)
 
 pub single-length : (t : Tag) → isSingleton t ≡ true → length t ≡ 1
 unfolding isSingleton oneSize sizeOf

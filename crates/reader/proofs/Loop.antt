@@ -1,4 +1,4 @@
--- One turn of the walk's loop, in the code's terms: what the judge, the transition and the verdict give at a place, and
+-- One turn of the walk's loop, in the code's terms: what the scan, the transition and the verdict give at a place, and
 -- what the walk makes of it. Assumes nothing.
 use mathlib.Core.Path.{_≡_, refl, sym, ap, _∙_}
 use mathlib.Core.Bool.{Bool, true, false, _||_}

@@ -10,11 +10,10 @@ use native.Mathlib.Omega.{arith}
 use lib.ListN.{length, getD, drop, drop-of-length-le}
 use lib.Seq.{drop-cons}
 use borrow.Author.Tests.{le-leb, lt-leb}
-use Rattle.standard.specs.Tag.{Tag, headTag}
+use Rattle.standard.specs.Tag.{Tag, headTag, All}
 use Rattle.standard.specs.Grammar.{small, capital, digit, separator}
 use Rattle.standard.specs.Reading.{Fault, fault, firstOf, noBytes, tooLong, clean, unclean, badTag, wrongSize, split, afterFirst, grammarFault, faultOf}
-use Rattle.standard.proofs.Bytes.{bool-cases, clash}
-use Rattle.standard.proofs.Tags.{All}
+use Rattle.standard.proofs.General.{bool-cases, clash, le-or-lt}
 use Rattle.standard.proofs.Groups.{Lacks}
 use Rattle.standard.proofs.Faults.{none-badTag}
 use Rattle.standard.proofs.Shapes.{Word}
@@ -25,7 +24,7 @@ use Rattle.subtag.specs.Subtags.{PlainTag}
 use Rattle.subtag.proofs.Bytes.{classed}
 use Rattle.subtag.proofs.Keys.{word-plain, split-words}
 use Rattle.subtag.proofs.Shapes.{wrong-empty, wrong-long, right-size}
-use Rattle.subtag.proofs.Walk.{split-cons, walk-more, walk-end, le-or-lt}
+use Rattle.subtag.proofs.Walk.{split-cons, walk-more, walk-end}
 use Rattle.reader.specs.declared.Found.{Found}
 use Rattle.reader.specs.declared.Found.the-variants.{At, Nothing}
 use Rattle.reader.specs.Parts.{refused, outcomeAs, outcome, foundAs}

@@ -12,8 +12,8 @@ use Rattle.standard.specs.Identifier.{part, parts}
 use Rattle.standard.specs.Reading as reading
 use Rattle.standard.specs.Reading.{Fault, accept, wrongKeyword, isX, upTo, from, root, ofKind, find, afterFirst, identifierOf, grammarFault}
 use Rattle.standard.specs.Report.{privateCount}
-use Rattle.standard.proofs.Bytes.{clash, bool-cases}
-use Rattle.standard.proofs.Shapes.{known}
+use Rattle.standard.proofs.General.{clash, bool-cases}
+use Rattle.standard.proofs.Shapes.{known, single-not-x}
 use Rattle.standard.proofs.Arranged.{firstOf-none}
 use Rattle.reader.specs.declared.Parts.{Parts}
 use Rattle.reader.specs.declared.steps.Stage.{Stage}
@@ -23,7 +23,7 @@ use Rattle.reader.specs.declared.steps.State.the-variants.{First, Main, 
 use Rattle.reader.specs.Walk.{stageOf, stageBy, placed, firstState, fieldState, opens, afterSingleton, afterOther, nextState, stageVerdict, verdictOf, verdictFault, singlesAfter, listedAfter, walkFault, cutStage, extended, cut, counted, unread, walkParts}
 use Rattle.reader.specs.Cuts.{languageCut, cutsAfter, cutsOf}
 use Rattle.reader.specs.Parts.{parts as parted, startOf, partsOf, outcomeAs}
-use Rattle.reader.proofs.Bodies.{body, heads, body-more, body-single, heads-more, heads-head, heads-x, from-more, from-head, from-x, single-not-x}
+use Rattle.reader.proofs.Bodies.{body, heads, body-more, body-single, heads-more, heads-head, heads-x, from-more, from-head, from-x}
 use Rattle.reader.proofs.Walked.{step, stepped, next-single, next-other, afterPrivate, afterPrivates, singles-stage, x-only, parts-upTo, walk-grammar}
 
 -- no refusal at a subtag, and none behind it

@@ -8,7 +8,8 @@ use lib.Bits.{bitOr}
 use lib.Dec.{eqb}
 use borrow.Author.Tests.{eq-eqb, ne-eqb, eqb-true, eqb-false}
 use Rattle.standard.specs.Grammar.{small, capital, digit}
-use Rattle.standard.proofs.Bytes.{bool-cases, clash, word}
+use Rattle.standard.proofs.General.{bool-cases, clash}
+use Rattle.standard.proofs.Bytes.{word}
 use Rattle.subtag.specs.declared.Class.{Class}
 use Rattle.subtag.specs.declared.Class.the-variants.{Small, Capital, Digit, Separator, Other}
 use Rattle.subtag.specs.Bytes.{classOf, isSmall, isCapital, isDigit}

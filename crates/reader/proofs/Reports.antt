@@ -13,11 +13,11 @@ use Rattle.standard.specs.Grammar.{aScript, aRegion, isLanguage, title, upper}
 use Rattle.standard.specs.Identifier.{three, und}
 use Rattle.standard.specs.Reading.{Fault, split, root, find, coreOf, identifierOf, faultOf, good, bad, readAs, read}
 use Rattle.standard.specs.Report.{Report, reportOf, report}
-use Rattle.standard.proofs.Bytes.{bool-cases}
+use Rattle.standard.proofs.General.{bool-cases}
 use Rattle.reader.specs.declared.Start.the-variants.{Language, Script, Root}
 use Rattle.reader.specs.declared.Parts.{Parts}
 use Rattle.reader.specs.Parts.{parts, refused, startOf, partsOf, outcomeAs, outcome}
-use Rattle.subtag.specs.Bytes.{raised}
+use Rattle.subtag.specs.Bytes.{cased}
 use Rattle.subtag.proofs.Raised.{raised-title, raised-upper}
 use Rattle.reader.specs.Words.{laterWord, LaterFits, refusedReport, partsReport}
 use Rattle.reader.proofs.Words.{raised-none}
@@ -67,9 +67,9 @@ module _ (x : List ℕ) (from to n : ℕ) (w : Tag) where
   pub later-short : LaterFits from to x → from < to → length (headTag (split (take (length x - (from + 1)) (drop (from + 1) x)))) ≤ 8
   later-short f h = rw (lent (from + 1)) (f .short h)
 
-  pub later-there : from < to → w ≡ raised n (headTag (split (take (length x - (from + 1)) (drop (from + 1) x)))) → w ≡ laterWord n from to x
+  pub later-there : from < to → w ≡ cased n (headTag (split (take (length x - (from + 1)) (drop (from + 1) x)))) → w ≡ laterWord n from to x
   unfolding laterWord
-  later-there h e = rw (lt-ltb from to h, laterWord) (e ∙ ap (raised n) (lent (from + 1)))
+  later-there h e = rw (lt-ltb from to h, laterWord) (e ∙ ap (cased n) (lent (from + 1)))
 
   pub later-not : to ≤ from → w ≡ [] → w ≡ laterWord n from to x
   unfolding laterWord
@@ -93,7 +93,7 @@ module _ (x : List ℕ) (p : Parts) (e : faultOf x ≡ none) (q : p ≡ partsOf 
   pub from-language : p .start ≡ Language → isLanguage (name .first) ≡ true
   from-language f = start-language (name .first) (sym (name .start) ∙ f)
 
-  pub report-language : p .start ≡ Language → (l s r : Tag) → l ≡ raised 0 (headTag (split x)) → s ≡ laterWord 1 (p .language) (p .script) x → r ≡ laterWord 8 (p .script) (p .region) x
+  pub report-language : p .start ≡ Language → (l s r : Tag) → l ≡ cased 0 (headTag (split x)) → s ≡ laterWord 1 (p .language) (p .script) x → r ≡ laterWord 8 (p .script) (p .region) x
       → partsReport p l s r ≡ reportOf (good (identifierOf (split x)))
   report-language f l s r a b c =
       let g = from-language f in
@@ -102,7 +102,7 @@ module _ (x : List ℕ) (p : Parts) (e : faultOf x ≡ none) (q : p ≡ partsOf 
       let k : r ≡ upper (find aRegion (name .others)) = c ∙ name .region .word 8 ∙ raised-upper 8 _ (name .region .short) in
       filled l s r (rw (i, j, k) (sym (name .three ∙ core-language (name .first) (name .others) g)))
 
-  pub report-script : p .start ≡ Script → (l s r : Tag) → l ≡ und → s ≡ raised 1 (headTag (split x)) → r ≡ laterWord 8 (p .script) (p .region) x
+  pub report-script : p .start ≡ Script → (l s r : Tag) → l ≡ und → s ≡ cased 1 (headTag (split x)) → r ≡ laterWord 8 (p .script) (p .region) x
       → partsReport p l s r ≡ reportOf (good (identifierOf (split x)))
   report-script f l s r a b c =
       let g = start-script (name .first) (sym (name .start) ∙ f) in

@@ -8,7 +8,7 @@ use Prim.Native.Nat.{ℕ, _+_}
 use Rattle.standard.specs.Tag.{Tag}
 use Rattle.standard.specs.Grammar.{Kind, aScript, aRegion, aVariant, aNone, kindOf, kind, variantKind, sizeOf, isVariant, only}
 use Rattle.standard.specs.Reading.{optional, Stage, afterLanguage, afterScript, afterRegion, afterRoot, accept, restFault, ofKind, find}
-use Rattle.standard.proofs.Bytes.{clash}
+use Rattle.standard.proofs.General.{clash}
 use Rattle.standard.proofs.Faults.{kind-variant, Back, back, nothing}
 use Rattle.standard.proofs.Shapes.{known}
 

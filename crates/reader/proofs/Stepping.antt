@@ -11,13 +11,13 @@ use lib.Count.{ones}
 use lib.Dec.{eqb, leb, isEq}
 use lib.ListN.{length}
 use borrow.Author.Tests.{eq-eqb, ne-eqb, eqb-true, eqb-false}
-use Rattle.standard.specs.Tag.{Tag, andThen, order, same}
+use Rattle.standard.specs.Tag.{Tag, andThen, order, same, All}
 use Rattle.standard.specs.Grammar as grammar
 use Rattle.standard.specs.Grammar.{every, aScript, aRegion, aVariant, aNone, oneSize, twoSize, kindOf, isSingleton, isTwo}
 use Rattle.standard.specs.Reading as reading
 use Rattle.standard.specs.Reading.{Fault, firstOf, member, accept, wrongKeyword, isX, root}
-use Rattle.standard.proofs.Bytes.{bool-cases, clash, and-true, word}
-use Rattle.standard.proofs.Tags.{All}
+use Rattle.standard.proofs.General.{bool-cases, clash, and-true}
+use Rattle.standard.proofs.Bytes.{word}
 use Rattle.standard.proofs.Shapes.{Word}
 use Rattle.subtag.specs.declared.Subtag.{Subtag}
 use Rattle.subtag.specs.Subtags.{firstByte, packed, keyOf, subtagOf, PlainBytes, PlainTag}
@@ -47,7 +47,7 @@ one-size n =
     bool-cases (eqb n 0) (λ e. rw (eqb-true n 0 e))
     (λ e. bool-cases (eqb n 1) (λ f. rw (e, f)) (λ f. rw (e, f) (go (eqb n 2) (eqb n 3) (eqb n 4) (leb n 8))))
   where
-    go : (a b c d : Bool) → oneSize (cond a grammar.two (cond b grammar.three (cond c grammar.four (cond d grammar.several grammar.long)))) ≡ false
+    go : (a b c d : Bool) → oneSize (cond a grammar.size2 (cond b grammar.size3 (cond c grammar.size4 (cond d grammar.size5to8 grammar.sizeOver8)))) ≡ false
     go true b c d = refl
     go false true c d = refl
     go false false true d = refl
@@ -61,7 +61,7 @@ two-size n =
     (λ e. bool-cases (eqb n 1) (λ f. rw (eqb-true n 1 f))
     (λ f. bool-cases (eqb n 2) (λ g. rw (e, f, g)) (λ g. rw (e, f, g) (go (eqb n 3) (eqb n 4) (leb n 8)))))
   where
-    go : (b c d : Bool) → twoSize (cond b grammar.three (cond c grammar.four (cond d grammar.several grammar.long))) ≡ false
+    go : (b c d : Bool) → twoSize (cond b grammar.size3 (cond c grammar.size4 (cond d grammar.size5to8 grammar.sizeOver8))) ≡ false
     go true c d = refl
     go false true d = refl
     go false false true = refl

@@ -13,7 +13,7 @@ use Rattle.standard.specs.Grammar.{Kind, aScript, aRegion, aVariant, aNone, kin
 use Rattle.standard.specs.Identifier.{parts}
 use Rattle.standard.specs.Reading as reading
 use Rattle.standard.specs.Reading.{Fault, fault, firstOf, badTag, member, accept, restFault, partFault, languageOnly, alone, groupsFault, noLanguage, start, grammarFault, wrongKeyword, wrongValue, fieldFault, fieldsFault, extensionFault, privateFault, isX, upTo, from, root}
-use Rattle.standard.proofs.Bytes.{clash, bool-cases}
+use Rattle.standard.proofs.General.{clash, bool-cases}
 use Rattle.standard.proofs.Tags.{same-eq}
 use Rattle.reader.specs.declared.steps.Stage.{Stage}
 use Rattle.reader.specs.declared.steps.Stage.the-variants.{Language, Script, Region, Variant, Root}
@@ -22,16 +22,12 @@ use Rattle.reader.specs.declared.steps.State.{State}
 use Rattle.reader.specs.declared.steps.State.the-variants.{First, Main, Unicode, Keywords, Transform, Part, Key, Field, Other, Others, Private, Privates, Misplaced, Unfinished}
 use Rattle.reader.specs.Walk.{stageOf, stageBy, placed, firstState, fieldState, opens, afterSingleton, afterOther, nextState, pending, stageVerdict, verdictOf, repeated, verdictFault, singlesAfter, listedAfter, walkFault}
 use Rattle.reader.proofs.Bodies.{body, heads, ahead, fields, behind, behind-more, behind-x, body-more, body-single, heads-head, from-head, single-length, ahead-more, ahead-key, fields-more, fields-key}
+use Rattle.standard.proofs.Round.{parts-append}
 
 first-assoc : (a b c : Option Fault) → firstOf (firstOf a b) c ≡ firstOf a (firstOf b c)
 unfolding firstOf
 first-assoc none b c = refl
 first-assoc (some f) b c = refl
-
-parts-append : (a b : List Tag) → parts (a ++ b) ≡ parts a + parts b
-unfolding parts
-parts-append [] b = omega arith
-parts-append (t ∷ a) b = omega (arith, parts-append a b)
 
 parts-next : (at : ℕ) (t : Tag) (b : List Tag) → at + parts (t ∷ b) ≡ at + suc (length t) + parts b
 unfolding parts

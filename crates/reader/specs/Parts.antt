@@ -13,7 +13,9 @@ use Rattle.reader.specs.declared.Start.{Start}
 use Rattle.reader.specs.declared.Start.the-variants.{Language, Script, Root}
 use Rattle.reader.specs.declared.Parts.{Parts}
 use Rattle.reader.specs.declared.Reading.{Reading}
-use Rattle.reader.specs.declared.Reading.the-variants.{Read, Empty, TooLong, BadByte, BadSize, Misplaced, Repeated, Unfinished}
+use Rattle.reader.specs.declared.Reading.the-variants.{Read, Refused}
+use Rattle.reader.specs.declared.Refusal.{Refusal}
+use Rattle.reader.specs.declared.Refusal.the-variants.{Empty, TooLong, BadByte, BadSize, Misplaced, Repeated, Unfinished}
 use Rattle.reader.specs.declared.Found.{Found}
 use Rattle.reader.specs.declared.Found.the-variants.{At, Nothing}
 use Rattle.reader.specs.Cuts.{cutsOf}
@@ -42,16 +44,20 @@ pub data Outcome : Type 0 where
   parts : Parts → Outcome
   refused : ℕ → ℕ → Outcome
 
--- 01, Numbers given back: each case of the answer
+-- 01, Numbers given back: the fault that each refusal of reading is
+abbrev pub faultIs : Refusal → Fault
+faultIs Empty = record { number = 1; place = 0 }
+faultIs TooLong = record { number = 2; place = 0 }
+faultIs (BadByte at) = record { number = 3; place = at }
+faultIs (BadSize at) = record { number = 4; place = at }
+faultIs (Misplaced at) = record { number = 5; place = at }
+faultIs (Repeated at) = record { number = 6; place = at }
+faultIs (Unfinished at) = record { number = 7; place = at }
+
+-- each case of the answer
 unfoldable pub outcomeOf : Reading → Outcome
 outcomeOf (Read p) = parts p
-outcomeOf Empty = refused 1 0
-outcomeOf TooLong = refused 2 0
-outcomeOf (BadByte at) = refused 3 at
-outcomeOf (BadSize at) = refused 4 at
-outcomeOf (Misplaced at) = refused 5 at
-outcomeOf (Repeated at) = refused 6 at
-outcomeOf (Unfinished at) = refused 7 at
+outcomeOf (Refused r) = refused (faultIs r .number) (faultIs r .place)
 
 unfoldable pub outcomeAs : Option Fault → Parts → Outcome
 outcomeAs none p = parts p

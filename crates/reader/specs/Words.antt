@@ -7,7 +7,7 @@ use lib.ListN.{length, take, drop}
 use Rattle.standard.specs.Tag.{Tag, headTag}
 use Rattle.standard.specs.Reading.{split, bad}
 use Rattle.standard.specs.Report as standard
-use Rattle.subtag.specs.Bytes.{raised}
+use Rattle.subtag.specs.Bytes.{cased}
 use Rattle.reader.specs.declared.Parts.{Parts}
 use Rattle.reader.specs.declared.report.Word.{Word}
 use Rattle.reader.specs.declared.report.Report.{Report}
@@ -34,7 +34,7 @@ pub record Within (r : Report) : Type 0 where
 
 -- the subtag behind a separator at `from`, where a part goes from there to `to`
 unfoldable pub laterWord : ℕ → ℕ → ℕ → List ℕ → Tag
-laterWord n from to x = elim (ltb from to) [ true ↦ raised n (headTag (split (drop (from + 1) x))) | false ↦ [] ]
+laterWord n from to x = elim (ltb from to) [ true ↦ cased n (headTag (split (drop (from + 1) x))) | false ↦ [] ]
 
 -- it is there and of at most 8 bytes
 pub record LaterFits (from to : ℕ) (x : List ℕ) : Type 0 where

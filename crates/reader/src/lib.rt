@@ -1,4 +1,5 @@
-// Reading an identifier: where its parts end, or the first refusal of numbers 1 to 7, in one walk over its subtags.
+// Inner. Reading an identifier: where its parts end, or the first refusal of numbers 1 to 7, in one walk over its
+// subtags.
 mod marks;
 pub mod report;
 pub mod steps;
@@ -9,12 +10,12 @@ use steps::State;
 use steps::Verdict;
 use subtag::Class;
 ghost use mathlib.Core.Path.{_≡_};
-ghost use Prim.Native.Nat.{_+_, _≤_, _<_};
-ghost use lib.ListN.{length};
 ghost use mathlib.Core.Bool.{not};
 ghost use mathlib.Core.Option.{none};
+ghost use Prim.Native.Nat.{_+_, _≤_, _<_};
+ghost use lib.ListN.{length};
 ghost use Rattle.standard.specs.Reading.{split, clean, unclean, badTag, wrongSize};
-ghost use Rattle.reader.specs.Parts.{foundAs, outcomeOf, outcome};
+ghost use Rattle.reader.specs.Parts.{foundAs, faultIs, outcomeOf, outcome};
 ghost use Rattle.reader.specs.Walk.{cut as cutAt, firstCut, cutStage, extended as extendedTo, unread as nothingRead};
 ghost use Rattle.reader.specs.Steps.{ended, stepsOf};
 
@@ -38,9 +39,8 @@ pub struct Parts {
     pub extension_count: usize,
 }
 
-// What reading finds: the parts, or a refusal with its place.
-pub enum Reading {
-    Read(Parts),
+// Why reading refuses, with the place where that has one.
+pub enum Refusal {
     Empty,
     TooLong,
     BadByte(usize),
@@ -48,6 +48,39 @@ pub enum Reading {
     Misplaced(usize),
     Repeated(usize),
     Unfinished(usize),
+}
+
+// What reading finds: the parts, or why it refuses.
+pub enum Reading {
+    Read(Parts),
+    Refused(Refusal),
+}
+
+// Number and place as document 01 gives them.
+pub struct Fault {
+    pub number: u8,
+    pub place: usize,
+}
+
+fn numbered(number: u8, place: usize) -> Fault
+    ensures { λ f. ⌜ (f .number ≡ number) × (f .place ≡ place) ⌝ }
+{
+    Fault { number, place }
+}
+
+// The number and place of a refusal: no refusal has number 0.
+pub fn fault_of(r: Refusal) -> Fault
+    ensures { λ f. ⌜ (f .number ≡ faultIs r .number) × (f .place ≡ faultIs r .place) × (0 < f .number) ⌝ }
+{
+    match r {
+        Refusal::Empty => numbered(1, 0),
+        Refusal::TooLong => numbered(2, 0),
+        Refusal::BadByte(at) => numbered(3, at),
+        Refusal::BadSize(at) => numbered(4, at),
+        Refusal::Misplaced(at) => numbered(5, at),
+        Refusal::Repeated(at) => numbered(6, at),
+        Refusal::Unfinished(at) => numbered(7, at),
+    }
 }
 
 // Nothing is read yet: a script first leaves the language empty.
@@ -147,7 +180,7 @@ fn finish(st: State, mut p: Parts, set: u64, at: usize) -> Reading
     ensures { λ r. ⌜ outcomeOf r ≡ ended st p set at ⌝ }
 {
     if steps::pending(st) {
-        return Reading::Unfinished(at);
+        return Reading::Refused(Refusal::Unfinished(at));
     }
     p.extension_count = u64::count_ones(set) as usize;
     Reading::Read(p)
@@ -174,20 +207,20 @@ fn walk(id: &[u8]) -> Reading
     let mut back: usize = 0;
     let mut at: usize = 0;
     'walk: loop {
-        let t = subtag::judge(&id[at..]);
+        let t = subtag::scan(&id[at..]);
         let next = steps::step(st, t);
         let verdict = steps::verdict_of(next);
         match verdict {
             Verdict::Misplaced => {
-                return Reading::Misplaced(at);
+                return Reading::Refused(Refusal::Misplaced(at));
             }
             Verdict::Unfinished => {
-                return Reading::Unfinished(back);
+                return Reading::Refused(Refusal::Unfinished(back));
             }
             Verdict::Singleton => {
                 let m = marks::add(set, t.first);
                 let Marking::New(more) = m else {
-                    return Reading::Repeated(at);
+                    return Reading::Refused(Refusal::Repeated(at));
                 };
                 set = more;
                 count = 0;
@@ -215,7 +248,7 @@ fn walk(id: &[u8]) -> Reading
         back = at;
         at = at + len + 1;
     }
-    Reading::Repeated(at)
+    Reading::Refused(Refusal::Repeated(at))
 }
 
 // A place, or none.
@@ -258,7 +291,7 @@ fn wrong_size(id: &[u8]) -> Found
 {
     let mut at: usize = 0;
     loop {
-        let t = subtag::judge(&id[at..]);
+        let t = subtag::scan(&id[at..]);
         let len = t.len;
         if len == 0 {
             return Found::At(at);
@@ -280,7 +313,7 @@ fn read_clean(id: &[u8]) -> Reading
 {
     let f = wrong_size(id);
     match f {
-        Found::At(at) => Reading::BadSize(at),
+        Found::At(at) => Reading::Refused(Refusal::BadSize(at)),
         Found::Nothing => walk(id),
     }
 }
@@ -290,14 +323,14 @@ pub fn read_parts(id: &[u8]) -> Reading
     ensures { λ r. ⌜ outcomeOf r ≡ outcome (now (id .entry)) ⌝ }
 {
     if id.len() == 0 {
-        return Reading::Empty;
+        return Reading::Refused(Refusal::Empty);
     }
     if 255 < id.len() {
-        return Reading::TooLong;
+        return Reading::Refused(Refusal::TooLong);
     }
     let f = foreign_byte(id);
     match f {
-        Found::At(at) => Reading::BadByte(at),
+        Found::At(at) => Reading::Refused(Refusal::BadByte(at)),
         Found::Nothing => read_clean(id),
     }
 }

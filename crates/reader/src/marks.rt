@@ -42,7 +42,7 @@ pub enum Marking {
     Repeat,
 }
 
-pub fn add(set: u64, singleton: u8) -> Marking
+pub(crate) fn add(set: u64, singleton: u8) -> Marking
     ensures { λ r. ⌜ r ≡ markedWith set singleton ⌝ }
 {
     let p = place(singleton);

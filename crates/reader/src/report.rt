@@ -1,6 +1,7 @@
 // What reading reports: number and place, language, script and region in canonical case, and the counts.
 use crate::Parts;
 use crate::Reading;
+use crate::Refusal;
 use crate::Start;
 ghost use mathlib.Core.Path.{_≡_};
 ghost use mathlib.Core.Option.{none};
@@ -11,8 +12,8 @@ ghost use Rattle.standard.specs.Tag.{headTag};
 ghost use Rattle.standard.specs.Identifier.{und as undTag};
 ghost use Rattle.standard.specs.Reading.{split, good, faultOf, identifierOf};
 ghost use Rattle.standard.specs.Report.{report, reportOf};
-ghost use Rattle.reader.specs.Parts.{partsOf};
-ghost use Rattle.subtag.specs.Bytes.{raised};
+ghost use Rattle.subtag.specs.Bytes.{cased};
+ghost use Rattle.reader.specs.Parts.{partsOf, faultIs};
 ghost use Rattle.reader.specs.Words.{wordIs, reportIs, Within, laterWord, LaterFits, refusedReport, partsReport};
 
 // A subtag: its first `len` bytes.
@@ -34,7 +35,7 @@ pub struct Report {
 // The subtag at the front of rest, its first `capitals` bytes as capitals.
 fn word_of(rest: &[u8], capitals: usize) -> Word
     requires { ⌜ length (headTag (split (now rest))) ≤ 8 ⌝ }
-    ensures { λ r. ⌜ (wordIs r ≡ raised capitals (headTag (split (now (rest .entry))))) × (r .len ≤ 8) ⌝ }
+    ensures { λ r. ⌜ (wordIs r ≡ cased capitals (headTag (split (now (rest .entry))))) × (r .len ≤ 8) ⌝ }
 {
     let mut bytes = [0u8; 8];
     let mut len: usize = 0;
@@ -43,7 +44,7 @@ fn word_of(rest: &[u8], capitals: usize) -> Word
         if subtag::is_separator(b) {
             return Word { bytes, len };
         }
-        bytes[len] = subtag::raise(subtag::lower(b), len, capitals);
+        bytes[len] = subtag::recase(subtag::lower(b), len, capitals);
         len += 1;
     }
     Word { bytes, len }
@@ -95,6 +96,14 @@ fn refusal(number: u8, place: usize) -> Report
     }
 }
 
+// The report of a refusal: no words, and counts 0.
+fn refused(r: Refusal) -> Report
+    ensures { λ a. ⌜ (reportIs a ≡ refusedReport (faultIs r .number) (faultIs r .place)) × Within a ⌝ }
+{
+    let f = crate::fault_of(r);
+    refusal(f.number, f.place)
+}
+
 fn filled(p: Parts, language: Word, script: Word, region: Word) -> Report
     requires { ⌜ (language .len ≤ 8) × (script .len ≤ 8) × (region .len ≤ 8) ⌝ }
     ensures { λ r. ⌜ (reportIs r ≡ partsReport p (wordIs language) (wordIs script) (wordIs region)) × Within r ⌝ }
@@ -137,12 +146,6 @@ pub fn read(id: &[u8]) -> Report
     let r = crate::read_parts(id);
     match r {
         Reading::Read(p) => report_parts(id, p),
-        Reading::Empty => refusal(1, 0),
-        Reading::TooLong => refusal(2, 0),
-        Reading::BadByte(at) => refusal(3, at),
-        Reading::BadSize(at) => refusal(4, at),
-        Reading::Misplaced(at) => refusal(5, at),
-        Reading::Repeated(at) => refusal(6, at),
-        Reading::Unfinished(at) => refusal(7, at),
+        Reading::Refused(why) => refused(why),
     }
 }

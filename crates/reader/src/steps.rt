@@ -132,7 +132,7 @@ fn main_state(s: Stage, t: Subtag) -> State
 fn part_state(s: Stage, t: Subtag) -> State
     ensures { λ r. ⌜ r ≡ partFrom s t ⌝ }
 {
-    if subtag::is_field(t) {
+    if subtag::is_field_key(t) {
         return State::Key;
     }
     let k = subtag::kind_of(t);
@@ -149,7 +149,7 @@ fn keyword_state(t: Subtag) -> State
     if t.len != 2 {
         return State::Keywords;
     }
-    if subtag::is_keyword(t) {
+    if subtag::is_keyword_key(t) {
         return State::Keywords;
     }
     State::Misplaced
@@ -159,7 +159,7 @@ fn keyword_state(t: Subtag) -> State
 fn transform_state(t: Subtag) -> State
     ensures { λ r. ⌜ r ≡ transformFrom t ⌝ }
 {
-    if subtag::is_field(t) {
+    if subtag::is_field_key(t) {
         return State::Key;
     }
     if subtag::is_language(t) {
@@ -172,7 +172,7 @@ fn transform_state(t: Subtag) -> State
 fn value_state(key: State, t: Subtag) -> State
     ensures { λ r. ⌜ r ≡ valueFrom key t ⌝ }
 {
-    if subtag::is_field(t) {
+    if subtag::is_field_key(t) {
         return key;
     }
     if t.len == 2 {
@@ -242,7 +242,7 @@ fn singleton_state(st: State, opened: State) -> State
 }
 
 // The transition.
-pub fn step(st: State, t: Subtag) -> State
+pub(crate) fn step(st: State, t: Subtag) -> State
     ensures { λ r. ⌜ r ≡ nextFrom st t ⌝ }
 {
     if t.len == 1 {
@@ -252,7 +252,7 @@ pub fn step(st: State, t: Subtag) -> State
 }
 
 // Has something begun that needs a subtag more?
-pub fn pending(st: State) -> bool
+pub(crate) fn pending(st: State) -> bool
     ensures { λ r. ⌜ r ≡ pendingOf st ⌝ }
 {
     match st {
@@ -286,7 +286,7 @@ fn stage_verdict(s: Stage) -> Verdict
 }
 
 // What is to be done about the subtag that led to the state.
-pub fn verdict_of(st: State) -> Verdict
+pub(crate) fn verdict_of(st: State) -> Verdict
     ensures { λ r. ⌜ r ≡ verdictOf st ⌝ }
 {
     match st {

@@ -9,15 +9,15 @@ use native.Mathlib.Omega.{arith}
 use lib.ListN.{length, take, drop, length-append}
 use lib.Seq.{take-append-seam, drop-append-seam, drop-drop}
 use borrow.Author.Tests.{le-leb, lt-leb}
-use Rattle.standard.specs.Tag.{Tag}
+use Rattle.standard.specs.Tag.{Tag, All}
 use Rattle.standard.specs.Identifier.{three}
 use Rattle.standard.specs.Table.{parse, isThree}
-use Rattle.standard.proofs.Tags.{All}
 use Rattle.byte_string.specs.Strings.{endOf}
 use Rattle.row_shapes.specs.Shapes.{isScript, isRegion, between, scriptEnd, ThreeAt}
 use Rattle.row_shapes.proofs.Tags.{script-length, region-sizes}
 use Rattle.row_shapes.proofs.Pieces.{Free}
-use Rattle.row_shapes.proofs.Threes.{ThreeOk, three-ok, three-text, language-free}
+use Rattle.row_shapes.proofs.Threes.{ThreeOk, three-ok, language-free}
+use Rattle.standard.proofs.Table.{three-printed as three-text}
 use Rattle.row_shapes.proofs.Fronts.{led, printed-led, language-sized}
 
 pub end-script : (e n : ℕ) → e + 5 ≤ n → scriptEnd e n ≡ e + 5

@@ -16,14 +16,15 @@ use Rattle.standard.specs.Grammar.{small, capital, digit, every, isLanguage}
 use Rattle.standard.specs.Identifier.{Three as Subtags, three}
 use Rattle.standard.specs.Reading.{optional, joined}
 use Rattle.standard.specs.Table.{parse, printThree, isThree}
-use Rattle.standard.proofs.Bytes.{bool-cases, clash, and-true}
+use Rattle.standard.proofs.General.{bool-cases, clash, and-true, both-ways}
 use Rattle.subtag.proofs.Bytes.{under}
 use Rattle.row_shapes.specs.Shapes.{allowed, isScript, isRegion, between, run, languageLen, scriptLen, regionLen, FrontAt, ThreeAt}
-use Rattle.row_shapes.specs.declared.three.Front.{Front as Read}
+use Rattle.row_shapes.specs.declared.lsr.Front.{Front as Read}
 use Rattle.row_shapes.specs.declared.subtags.Bytes.the-variants.{Small, Capital, Digit}
 use Rattle.byte_string.proofs.Stores.{all-from}
-use Rattle.row_shapes.proofs.Tags.{both-ways, language-short, language-four, language-long, language-letters, script-is, script-length, region-sizes, region-two, region-three, every-both, not-capital, digit-low}
-use Rattle.row_shapes.proofs.Threes.{ThreeOk, three-ok, three-text, print-is-three, parse-print}
+use Rattle.row_shapes.proofs.Tags.{language-short, language-four, language-long, language-letters, script-is, script-length, region-sizes, region-two, region-three, every-both, not-capital, digit-low}
+use Rattle.row_shapes.proofs.Threes.{ThreeOk, three-ok, print-is-three, parse-print}
+use Rattle.standard.proofs.Table.{three-printed as three-text}
 
 module _ (p : ℕ → Bool) where
   run-yes : (b : ℕ) (s : List ℕ) → p b ≡ true → run p (b ∷ s) ≡ suc (run p s)

@@ -11,16 +11,12 @@ use Rattle.standard.specs.Grammar.{isLanguage}
 use Rattle.standard.specs.Identifier.{Three as Subtags, three, und, zzzz, zz, complete, without, withoutUnknown, sameThree}
 use Rattle.standard.specs.Table.{parse, languageIsUnd, isVariantTag, aliasShape}
 use Rattle.standard.proofs.Tags.{same-eq, same-refl}
-use Rattle.standard.proofs.Bytes.{bool-cases, clash}
-use Rattle.row_shapes.specs.declared.three.Three.{Three}
+use Rattle.standard.proofs.General.{bool-cases, both-ways, no}
+use Rattle.row_shapes.specs.declared.lsr.Three.{Three}
 use Rattle.row_shapes.specs.declared.aliases.AliasKind.{AliasKind}
 use Rattle.row_shapes.specs.declared.aliases.AliasKind.the-variants.{Language, Script, Region, Variant, Unknown}
 use Rattle.row_shapes.specs.Shapes.{isScript, isRegion, between, ThreeAt}
 use Rattle.row_shapes.specs.Rows.{isKnown, knownParts, languageName, scriptName, regionName, variantName, pickKind, kindNamed, languageAlias, shapeBy}
-use Rattle.row_shapes.proofs.Tags.{both-ways}
-
-no : {P : Type 0} → false ≡ true → P
-no e = clash {b = true} refl (sym e)
 
 pub lengths-differ : (a b : Tag) → (length a ≡ length b → ⊥) → false ≡ same a b
 lengths-differ a b h = sym (bool-cases (same a b) (λ e. absurd (h (ap length (same-eq a b e)))) (λ e. e))

@@ -16,24 +16,20 @@ use borrow.Author.Tests.{lt-ltb, lt-leb, eqb-true}
 use Rattle.standard.specs.Tag.{Tag, andThen, order}
 use Rattle.standard.specs.Reading.{Fault, fault}
 use Rattle.standard.specs.Grammar.{isLanguage, languageSize, sizeOf}
-use Rattle.standard.specs.Table.{pieces, rows, keyOf, above, rowsFault, parse, threeOf, isThree, aliasShape, likelyShape, parentShape}
-use Rattle.standard.proofs.Bytes.{clash, and-true}
-use Rattle.subtag.proofs.Walk.{le-or-lt}
-use Rattle.byte_string.proofs.Orders.{compare-lt, compare-gt, compare-same}
+use Rattle.standard.proofs.Checks.{shape-off, order-off, row-on}
+use Rattle.standard.specs.Table.{pieces, rows, rowKey, above, rowsFault, parse, threeOf, isThree, aliasShape, likelyShape, parentShape, shapeOf}
+use Rattle.standard.proofs.General.{and-true, le-or-lt, compare-lt, compare-gt, compare-same, no}
 use Rattle.byte_string.specs.Strings.{endOf, orderOf}
 use Rattle.table.specs.Search.{below}
 use Rattle.byte_string.proofs.Ends.{Ends, ends}
-use Rattle.table.proofs.Lines.{Some, pieces-some}
+use Rattle.standard.proofs.Table.{Some, pieces-some}
 use Rattle.table.proofs.Searches.{below-lt, below-gt, below-eq}
 use Rattle.byte_string.specs.declared.Order.{Order}
 use Rattle.row_shapes.specs.declared.Table.{Table}
 use Rattle.row_shapes.specs.declared.Table.the-variants.{Aliases, Likely, Parents}
 use Rattle.row_shapes.specs.Shapes.{between, others}
-use Rattle.row_shapes.specs.Rows.{shapeOf, secondTab, keyEnd}
+use Rattle.row_shapes.specs.Rows.{kindIs, secondTab, keyEnd}
 use Rattle.row_shapes.proofs.Pieces.{pieces-at, pieces-first, others-at, others-none}
-
-no : {P : Type 0} → false ≡ true → P
-no e = clash {b = true} refl (sym e)
 
 -- the order, as the search has it
 abbrev pub isLess : Ordering → Bool
@@ -71,7 +67,7 @@ above-last (b ∷ bs) key h = go (order (b ∷ bs) key) refl ∙ sym (below-orde
 
 -- The key of a row that has its shape.
 pub record KeyAt (table : Table) (l : List ℕ) : Type 0 where
-  pub key : keyOf (pieces 9 l) ≡ take (keyEnd table l) l
+  pub key : rowKey (pieces 9 l) ≡ take (keyEnd table l) l
   pub some : 0 < keyEnd table l
   pub room : keyEnd table l < length l
 
@@ -127,13 +123,13 @@ module _ (l : List ℕ) where
   tab-some k e h = let b = tab-bounds in let n = sym (length-take-le tab l (b .high)) ∙ ap length e in omega arith
 
   two-key : (table : Table) (k v : Tag) → keyEnd table l ≡ tab → pieces 9 l ≡ k ∷ v ∷ [] → 0 < length k → KeyAt table l
-  unfolding keyOf
+  unfolding rowKey
   two-key table k v z e h =
       let t = tabbed k (v ∷ []) e in
-      record { key = rw z (ap keyOf e ∙ sym (t .front)); some = rw z (tab-some k (t .front) h); room = rw z (others-some 9 tab v [] (t .more)) }
+      record { key = rw z (ap rowKey e ∙ sym (t .front)); some = rw z (tab-some k (t .front) h); room = rw z (others-some 9 tab v [] (t .more)) }
 
   three-key : (a k v : Tag) → pieces 9 l ≡ a ∷ k ∷ v ∷ [] → KeyAt Aliases l
-  unfolding keyOf keyEnd secondTab
+  unfolding rowKey keyEnd secondTab
   three-key a k v e =
       let t = tabbed a (k ∷ v ∷ []) e in
       let h = others-some 9 tab k (v ∷ []) (t .more) in
@@ -146,7 +142,7 @@ module _ (l : List ℕ) where
       let w : take b l ≡ a ++ (9 ∷ k) =
       ap₂ take u (row-split 9 l 0 tab refl h) ∙ take-over (take tab l) (9 ∷ drop (tab + 1) l) (suc (b - (tab + 1))) ∙ ap₂ (λ (x y : List ℕ). x ++ (9 ∷ y)) (t .front) (head-eq-of-cons-eq q) in
       let x = lt-leb (length l) tab h in
-      record { key = rw x (ap keyOf e ∙ sym w); some = rw x (omega (arith, d .low)); room = rw x g }
+      record { key = rw x (ap rowKey e ∙ sym w); some = rw x (omega (arith, d .low)); room = rw x g }
 
   alias-row : (ts : List Tag) → pieces 9 l ≡ ts → aliasShape ts ≡ true → KeyAt Aliases l
   unfolding aliasShape
@@ -170,25 +166,11 @@ module _ (l : List ℕ) where
   parent-row (k ∷ v ∷ []) q f = two-key Parents k v refl q (three-some k ((and-true (isThree k) _ f) .0))
   parent-row (a ∷ b ∷ c ∷ ts) q f = no f
 
-  pub shape-key : (table : Table) → shapeOf table (pieces 9 l) ≡ true → KeyAt table l
-  unfolding shapeOf
+  pub shape-key : (table : Table) → shapeOf (kindIs table) (pieces 9 l) ≡ true → KeyAt table l
+  unfolding kindIs shapeOf
   shape-key Aliases e = alias-row (pieces 9 l) refl e
   shape-key Likely e = likely-row (pieces 9 l) refl e
   shape-key Parents e = parent-row (pieces 9 l) refl e
-
--- One row, by the tests.
-module _ (shape : List Tag → Bool) (last : Option (List ℕ)) (at : ℕ) (l : Tag) (ls : List Tag) (m : Tag) (ms : List Tag) (q : ls ≡ m ∷ ms) where
-  shape-off : shape (pieces 9 l) ≡ false → rowsFault shape last at (l ∷ ls) ≡ fault 12 at
-  unfolding rowsFault
-  shape-off s = rw q (rw (s, rowsFault))
-
-  order-off : shape (pieces 9 l) ≡ true → above last (keyOf (pieces 9 l)) ≡ false → rowsFault shape last at (l ∷ ls) ≡ fault 13 at
-  unfolding rowsFault
-  order-off s a = rw q (rw (s, a, rowsFault))
-
-  row-on : shape (pieces 9 l) ≡ true → above last (keyOf (pieces 9 l)) ≡ true → rowsFault shape last at (l ∷ ls) ≡ rowsFault shape (some (keyOf (pieces 9 l))) (at + suc (length l)) ls
-  unfolding rowsFault
-  row-on s a = rw q (rw (s, a, rowsFault))
 
 last-some : (k : List ℕ) → 0 < length k → lastOf k ≡ some k
 unfolding lastOf
@@ -201,7 +183,7 @@ module _ (table : Table) (t before : List ℕ) (i e : ℕ) (q : e ≡ endOf 10 t
   line = take (e - i) (drop i t)
 
   abbrev passFrom : List ℕ → ℕ → Option Fault
-  passFrom last at = rowsFault (shapeOf table) (lastOf last) at (pieces 10 (drop at t))
+  passFrom last at = rowsFault (shapeOf (kindIs table)) (lastOf last) at (pieces 10 (drop at t))
 
   size : length line ≡ e - i
   size = let b = ends 10 t i e q (omega arith) in simp (length-take, length-drop) (omega arith)
@@ -210,9 +192,9 @@ module _ (table : Table) (t before : List ℕ) (i e : ℕ) (q : e ≡ endOf 10 t
   unfolding rowsFault
   pass-short g =
       let b = ends 10 t i e q (omega arith) in
-      sym (ap (rowsFault (shapeOf table) (lastOf before) i) (pieces-at 10 t i e q (omega arith) ∙ ap (_∷_ line) (others-none 10 t e g)) ∙ last line (omega (arith, size)))
+      sym (ap (rowsFault (shapeOf (kindIs table)) (lastOf before) i) (pieces-at 10 t i e q (omega arith) ∙ ap (_∷_ line) (others-none 10 t e g)) ∙ last line (omega (arith, size)))
     where
-      last : (l : List ℕ) → 0 < length l → rowsFault (shapeOf table) (lastOf before) i (l ∷ []) ≡ fault 12 i
+      last : (l : List ℕ) → 0 < length l → rowsFault (shapeOf (kindIs table)) (lastOf before) i (l ∷ []) ≡ fault 12 i
       last [] k = absurd (omega arith)
       last (x ∷ l) k = refl
 
@@ -225,18 +207,18 @@ module _ (table : Table) (t before : List ℕ) (i e : ℕ) (q : e ≡ endOf 10 t
     next-place : i + suc (length line) ≡ e + 1
     next-place = let b = ends 10 t i e q (omega arith) in omega (arith, size)
 
-    pub pass-shape : shapeOf table (pieces 9 line) ≡ false → fault 12 i ≡ passFrom before i
-    pass-shape s = sym (ap (rowsFault (shapeOf table) (lastOf before) i) follows ∙ off (pieces-some 10 (drop (e + 1) t)))
+    pub pass-shape : shapeOf (kindIs table) (pieces 9 line) ≡ false → fault 12 i ≡ passFrom before i
+    pass-shape s = sym (ap (rowsFault (shapeOf (kindIs table)) (lastOf before) i) follows ∙ off (pieces-some 10 (drop (e + 1) t)))
       where
-        off : Some 10 (drop (e + 1) t) → rowsFault (shapeOf table) (lastOf before) i (line ∷ pieces 10 (drop (e + 1) t)) ≡ fault 12 i
-        off p = shape-off (shapeOf table) (lastOf before) i line (pieces 10 (drop (e + 1) t)) (p .first) (p .more) (p .are) s
+        off : Some 10 (drop (e + 1) t) → rowsFault (shapeOf (kindIs table)) (lastOf before) i (line ∷ pieces 10 (drop (e + 1) t)) ≡ fault 12 i
+        off p = shape-off (shapeOf (kindIs table)) (lastOf before) i line (pieces 10 (drop (e + 1) t)) (p .first) (p .more) (p .are) s
 
     -- the key, as the code cuts it
-    module _ (d : ℕ) (z : d ≡ keyEnd table line) (s : shapeOf table (pieces 9 line) ≡ true) where
+    module _ (d : ℕ) (z : d ≡ keyEnd table line) (s : shapeOf (kindIs table) (pieces 9 line) ≡ true) where
       pub key-bounds : (0 < d) × (i + d < e)
       key-bounds = let k = shape-key line table s in let b = ends 10 t i e q (omega arith) in (omega (arith, k .some), omega (arith, k .room, size))
 
-      pub key-cut : take (i + d - i) (drop i t) ≡ keyOf (pieces 9 line)
+      pub key-cut : take (i + d - i) (drop i t) ≡ rowKey (pieces 9 line)
       key-cut =
           let k = shape-key line table s in
           let b = key-bounds in
@@ -244,29 +226,29 @@ module _ (table : Table) (t before : List ℕ) (i e : ℕ) (q : e ≡ endOf 10 t
           let w : d ≤ e - i = omega (arith, b .1) in
           ap (λ (n : ℕ). take n (drop i t)) u ∙ sym (take-take d (e - i) (drop i t) w) ∙ sym (k .key ∙ ap (λ (n : ℕ). take n line) (sym z))
 
-      key-some : 0 < length (keyOf (pieces 9 line))
+      key-some : 0 < length (rowKey (pieces 9 line))
       key-some = let b = key-bounds in let n = ap length key-cut in omega (arith, simp (length-take, length-drop) at n)
 
-      above-is : above (lastOf before) (keyOf (pieces 9 line)) ≡ below before (take (i + d - i) (drop i t))
-      above-is = above-last before (keyOf (pieces 9 line)) key-some ∙ ap (below before) (sym key-cut)
+      above-is : above (lastOf before) (rowKey (pieces 9 line)) ≡ below before (take (i + d - i) (drop i t))
+      above-is = above-last before (rowKey (pieces 9 line)) key-some ∙ ap (below before) (sym key-cut)
 
       pub pass-order : below before (take (i + d - i) (drop i t)) ≡ false → fault 13 i ≡ passFrom before i
       pass-order f =
           let p = pieces-some 10 (drop (e + 1) t) in
-          sym (ap (rowsFault (shapeOf table) (lastOf before) i) follows ∙ order-off (shapeOf table) (lastOf before) i line (pieces 10 (drop (e + 1) t)) (p .first) (p .more) (p .are) s (above-is ∙ f))
+          sym (ap (rowsFault (shapeOf (kindIs table)) (lastOf before) i) follows ∙ order-off (shapeOf (kindIs table)) (lastOf before) i line (pieces 10 (drop (e + 1) t)) (p .first) (p .more) (p .are) s (above-is ∙ f))
 
       pub pass-next : below before (take (i + d - i) (drop i t)) ≡ true → passFrom before i ≡ passFrom (take (i + d - i) (drop i t)) (e + 1)
       pass-next f =
           let p = pieces-some 10 (drop (e + 1) t) in
-          ap (rowsFault (shapeOf table) (lastOf before) i) follows
-          ∙ row-on (shapeOf table) (lastOf before) i line (pieces 10 (drop (e + 1) t)) (p .first) (p .more) (p .are) s (above-is ∙ f)
-          ∙ ap₂ (λ (o : Option (List ℕ)) (n : ℕ). rowsFault (shapeOf table) o n (pieces 10 (drop (e + 1) t))) (sym (ap lastOf key-cut ∙ last-some (keyOf (pieces 9 line)) key-some)) next-place
+          ap (rowsFault (shapeOf (kindIs table)) (lastOf before) i) follows
+          ∙ row-on (shapeOf (kindIs table)) (lastOf before) i line (pieces 10 (drop (e + 1) t)) (p .first) (p .more) (p .are) s (above-is ∙ f)
+          ∙ ap₂ (λ (o : Option (List ℕ)) (n : ℕ). rowsFault (shapeOf (kindIs table)) o n (pieces 10 (drop (e + 1) t))) (sym (ap lastOf key-cut ∙ last-some (rowKey (pieces 9 line)) key-some)) next-place
 
-pub pass-end : (table : Table) (t before : List ℕ) (i : ℕ) → length t ≤ i → none ≡ rowsFault (shapeOf table) (lastOf before) i (pieces 10 (drop i t))
+pub pass-end : (table : Table) (t before : List ℕ) (i : ℕ) → length t ≤ i → none ≡ rowsFault (shapeOf (kindIs table)) (lastOf before) i (pieces 10 (drop i t))
 unfolding rowsFault pieces
 pass-end table t before i h = rw (drop-of-length-le t h)
 
-pub pass-start : (table : Table) (t : List ℕ) → rowsFault (shapeOf table) none 0 (rows t) ≡ rowsFault (shapeOf table) (lastOf (take (0 - 0) (drop 0 t))) 0 (pieces 10 (drop 0 t))
+pub pass-start : (table : Table) (t : List ℕ) → rowsFault (shapeOf (kindIs table)) none 0 (rows t) ≡ rowsFault (shapeOf (kindIs table)) (lastOf (take (0 - 0) (drop 0 t))) 0 (pieces 10 (drop 0 t))
 unfolding rows lastOf
 pass-start table t = refl
 

@@ -10,13 +10,12 @@ use native.Mathlib.Omega.{arith}
 use lib.Dec.{eqb, ltb, leb·suc-suc}
 use lib.ListN.{length, take, drop}
 use borrow.Author.Tests.{eq-eqb, lt-ltb, le-ltb, eqb-true}
-use Rattle.standard.specs.Tag.{Tag, onto}
+use Rattle.standard.specs.Tag.{Tag, onto, All}
 use Rattle.standard.specs.Reading.{joined}
 use Rattle.standard.specs.Table.{pieces}
-use Rattle.standard.proofs.Tags.{All}
-use Rattle.standard.proofs.Bytes.{bool-cases}
+use Rattle.standard.proofs.General.{bool-cases}
 use Rattle.byte_string.specs.Strings.{endOf}
-use Rattle.table.proofs.Lines.{pieces-some}
+use Rattle.standard.proofs.Table.{pieces-some}
 use Rattle.row_shapes.specs.Shapes.{between, others, noMore}
 
 ltb-suc : (a n : ℕ) → ltb (suc a) (suc n) ≡ ltb a n

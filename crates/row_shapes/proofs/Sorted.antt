@@ -9,31 +9,28 @@ use native.Mathlib.Omega.{arith}
 use lib.Dec.{eqb, leb}
 use lib.ListN.{length, drop}
 use borrow.Author.Tests.{le-leb, leb-true, eqb-true, eqb-false}
-use Rattle.standard.specs.Tag.{Tag, order, same, onto}
+use Rattle.standard.specs.Tag.{Tag, order, same, onto, All}
 use Rattle.standard.specs.Grammar.{small, capital, digit, every, isLanguage}
 use Rattle.standard.specs.Identifier.{und}
 use Rattle.standard.specs.Reading.{joined}
-use Rattle.standard.specs.Table.{pieces, rows, keyOf, above, rowsFault, isThree, parse, languageIsUnd, isVariantTag, aliasShape, likelyShape, parentShape}
-use Rattle.standard.proofs.Tags.{All, same-eq}
-use Rattle.standard.proofs.Table.{Pass}
-use Rattle.standard.proofs.Bytes.{bool-cases, clash, and-true}
+use Rattle.standard.specs.Table.{pieces, rows, rowKey, above, rowsFault, isThree, parse, languageIsUnd, isVariantTag, aliasShape, likelyShape, parentShape, shapeOf}
+use Rattle.standard.proofs.Tags.{same-eq}
+use Rattle.standard.proofs.General.{bool-cases, clash, and-true, no}
 use Rattle.subtag.proofs.Bytes.{small-in, capital-in, digit-in}
 use Rattle.byte_string.specs.Strings.{endOf}
 use Rattle.table.specs.Search.{below, ascendFrom, ascend, Opens, Sorted}
-use Rattle.table.proofs.Lines.{trimmed, lines-trimmed, pieces-some}
+use Rattle.table.proofs.Lines.{trimmed, lines-trimmed}
+use Rattle.standard.proofs.Table.{pieces-some}
 use Rattle.table.proofs.Searches.{Cmp, lt, eq, gt, cmp, below-lt, below-gt, below-eq, below-nil}
 use Rattle.row_shapes.specs.declared.Table.{Table}
 use Rattle.row_shapes.specs.declared.Table.the-variants.{Aliases, Likely, Parents}
 use Rattle.row_shapes.specs.Shapes.{isScript, isRegion, regionTail}
-use Rattle.row_shapes.specs.Rows.{languageName, scriptName, regionName, variantName, kindNamed, languageAlias, shapeBy, shapeOf, secondTab, keyEnd}
+use Rattle.row_shapes.specs.Rows.{languageName, scriptName, regionName, variantName, kindNamed, languageAlias, shapeBy, kindIs, secondTab, keyEnd}
 use Rattle.row_shapes.proofs.Tags.{language-every, script-every, region-every, variant-every}
 use Rattle.row_shapes.proofs.Pieces.{Free, pieces-here, pieces-next, pieces-free, joined-pieces}
 use Rattle.row_shapes.proofs.Threes.{tail, region-tail, three-pieces}
 use Rattle.row_shapes.proofs.Judges.{alias-by}
 use Rattle.row_shapes.proofs.Passes.{isLess, below-order, KeyAt, shape-key, row-split}
-
-no : {P : Type 0} → false ≡ true → P
-no e = clash {b = true} refl (sym e)
 
 -- not below a tab
 abbrev high : ℕ → Bool
@@ -130,9 +127,9 @@ rows-ascend (x ∷ a) (y ∷ b) u v n p e = go (rows-ascend a b u v) (cmp x y)
 -- What the shape says of a row.
 record Row (n : ℕ) (l : List ℕ) : Type 0 where
   value : List ℕ
-  parts : l ≡ keyOf (pieces 9 l) ++ (9 ∷ value)
-  count : tabs (keyOf (pieces 9 l)) ≡ n
-  plain : every high (keyOf (pieces 9 l)) ≡ true
+  parts : l ≡ rowKey (pieces 9 l) ++ (9 ∷ value)
+  count : tabs (rowKey (pieces 9 l)) ≡ n
+  plain : every high (rowKey (pieces 9 l)) ≡ true
 
 -- the tabs in a table's keys
 abbrev tabsOf : Table → ℕ
@@ -146,11 +143,11 @@ key-end Aliases l k = bool-cases (leb (length l) (endOf 9 l 0)) (λ e. (0, rw e)
 key-end Likely l k = (0, refl)
 key-end Parents l k = (0, refl)
 
-row-parts : (table : Table) (l : List ℕ) (k : KeyAt table l) → l ≡ keyOf (pieces 9 l) ++ (9 ∷ drop (keyEnd table l + 1) l)
+row-parts : (table : Table) (l : List ℕ) (k : KeyAt table l) → l ≡ rowKey (pieces 9 l) ++ (9 ∷ drop (keyEnd table l + 1) l)
 row-parts table l k = let e = key-end table l k in row-split 9 l (e .0) (keyEnd table l) (e .1) (k .room) ∙ ap (λ (x : List ℕ). x ++ (9 ∷ drop (keyEnd table l + 1) l)) (sym (k .key))
 
-two-plain : (k v : Tag) → isThree k ≡ true → All (Free 9) (k ∷ v ∷ []) → (tabs (keyOf (k ∷ v ∷ [])) ≡ 0) × (every high (keyOf (k ∷ v ∷ [])) ≡ true)
-unfolding keyOf All
+two-plain : (k v : Tag) → isThree k ≡ true → All (Free 9) (k ∷ v ∷ []) → (tabs (rowKey (k ∷ v ∷ [])) ≡ 0) × (every high (rowKey (k ∷ v ∷ [])) ≡ true)
+unfolding rowKey All
 two-plain k v e f = (tabs-free k (f .0), three-high k e)
 
 -- an alias row has a kind's name and a subtag of the kind
@@ -164,8 +161,8 @@ alias-high kind k v e =
     (λ c. bool-cases (same kind variantName) (λ d. (ap (every high) (same-eq kind variantName d), variant-high k ((and-true (isVariantTag k) (isVariantTag v) (rw (a, b, c, d) at e)) .0)))
     (λ d. no (rw (a, b, c, d) at e)))))
 
-three-plain : (a k v : Tag) → aliasShape (a ∷ k ∷ v ∷ []) ≡ true → All (Free 9) (a ∷ k ∷ v ∷ []) → (tabs (keyOf (a ∷ k ∷ v ∷ [])) ≡ 1) × (every high (keyOf (a ∷ k ∷ v ∷ [])) ≡ true)
-unfolding keyOf All tabs every
+three-plain : (a k v : Tag) → aliasShape (a ∷ k ∷ v ∷ []) ≡ true → All (Free 9) (a ∷ k ∷ v ∷ []) → (tabs (rowKey (a ∷ k ∷ v ∷ [])) ≡ 1) × (every high (rowKey (a ∷ k ∷ v ∷ [])) ≡ true)
+unfolding rowKey All tabs every
 three-plain a k v e f =
     let h = alias-high a k v (sym (alias-by k v a) ∙ e) in
     let n = tabs-append a (9 ∷ k) in
@@ -173,8 +170,8 @@ three-plain a k v e f =
     let o = tabs-free k (f .1 .0) in
     (omega arith, every-append high a (9 ∷ k) (h .0) (h .1))
 
-plain-key : (table : Table) (ts : List Tag) → shapeOf table ts ≡ true → All (Free 9) ts → (tabs (keyOf ts) ≡ tabsOf table) × (every high (keyOf ts) ≡ true)
-unfolding shapeOf aliasShape likelyShape parentShape
+plain-key : (table : Table) (ts : List Tag) → shapeOf (kindIs table) ts ≡ true → All (Free 9) ts → (tabs (rowKey ts) ≡ tabsOf table) × (every high (rowKey ts) ≡ true)
+unfolding kindIs shapeOf aliasShape likelyShape parentShape
 plain-key Aliases [] e f = no e
 plain-key Aliases (a ∷ []) e f = no e
 plain-key Aliases (a ∷ b ∷ []) e f = no e
@@ -189,15 +186,15 @@ plain-key Parents (a ∷ []) e f = no e
 plain-key Parents (k ∷ v ∷ []) e f = two-plain k v ((and-true (isThree k) _ e) .0) f
 plain-key Parents (a ∷ b ∷ c ∷ ts) e f = no e
 
-row : (table : Table) (l : List ℕ) → shapeOf table (pieces 9 l) ≡ true → Row (tabsOf table) l
+row : (table : Table) (l : List ℕ) → shapeOf (kindIs table) (pieces 9 l) ≡ true → Row (tabsOf table) l
 row table l e =
     let k = shape-key l table e in
     let p = plain-key table (pieces 9 l) e (pieces-free 9 l) in
     record { value = drop (keyEnd table l + 1) l; parts = row-parts table l k; count = p .0; plain = p .1 }
 
-row-below : (n : ℕ) (l m : List ℕ) → Row n l → Row n m → below (keyOf (pieces 9 l)) (keyOf (pieces 9 m)) ≡ true → below l m ≡ true
+row-below : (n : ℕ) (l m : List ℕ) → Row n l → Row n m → below (rowKey (pieces 9 l)) (rowKey (pieces 9 m)) ≡ true → below l m ≡ true
 row-below n l m r s e =
-    ap₂ below (r .parts) (s .parts) ∙ rows-ascend (keyOf (pieces 9 l)) (keyOf (pieces 9 m)) (r .value) (s .value) (r .count ∙ sym (s .count)) (s .plain) e
+    ap₂ below (r .parts) (s .parts) ∙ rows-ascend (rowKey (pieces 9 l)) (rowKey (pieces 9 m)) (r .value) (s .value) (r .count ∙ sym (s .count)) (s .plain) e
 
 -- the last piece is empty
 unfoldable last-empty : List Tag → Bool
@@ -224,12 +221,12 @@ opens-end (x ∷ y ∷ t) e =
 -- Rows without fault.
 module _ (table : Table) where
   -- what a row without fault passed
-  passed : (last : Option (List ℕ)) (at : ℕ) (l m : Tag) (ls : List Tag) → rowsFault (shapeOf table) last at (l ∷ m ∷ ls) ≡ none
-      → (shapeOf table (pieces 9 l) ≡ true) × (above last (keyOf (pieces 9 l)) ≡ true) × (rowsFault (shapeOf table) (some (keyOf (pieces 9 l))) (at + suc (length l)) (m ∷ ls) ≡ none)
+  passed : (last : Option (List ℕ)) (at : ℕ) (l m : Tag) (ls : List Tag) → rowsFault (shapeOf (kindIs table)) last at (l ∷ m ∷ ls) ≡ none
+      → (shapeOf (kindIs table) (pieces 9 l) ≡ true) × (above last (rowKey (pieces 9 l)) ≡ true) × (rowsFault (shapeOf (kindIs table)) (some (rowKey (pieces 9 l))) (at + suc (length l)) (m ∷ ls) ≡ none)
   unfolding rowsFault
   passed last at l m ls e =
-      bool-cases (shapeOf table (pieces 9 l))
-      (λ s. bool-cases (above last (keyOf (pieces 9 l))) (λ a. (s, a, rw (s, a, rowsFault) at e)) (λ a. absurd (Option·some-ne-none _ (rw (s, a, rowsFault) at e))))
+      bool-cases (shapeOf (kindIs table) (pieces 9 l))
+      (λ s. bool-cases (above last (rowKey (pieces 9 l))) (λ a. (s, a, rw (s, a, rowsFault) at e)) (λ a. absurd (Option·some-ne-none _ (rw (s, a, rowsFault) at e))))
       (λ s. absurd (Option·some-ne-none _ (rw (s, rowsFault) at e)))
 
   above-below : (p k : List ℕ) → above (some p) k ≡ true → below p k ≡ true
@@ -241,38 +238,30 @@ module _ (table : Table) where
       go Ordering·eq f = no (rw (f, above) at e)
       go Ordering·gt f = no (rw (f, above) at e)
 
-  rows-up : (l : Tag) (at : ℕ) (ps : List Tag) → Row (tabsOf table) l → rowsFault (shapeOf table) (some (keyOf (pieces 9 l))) at ps ≡ none → ascendFrom l (trimmed ps) ≡ true
+  rows-up : (l : Tag) (at : ℕ) (ps : List Tag) → Row (tabsOf table) l → rowsFault (shapeOf (kindIs table)) (some (rowKey (pieces 9 l))) at ps ≡ none → ascendFrom l (trimmed ps) ≡ true
   unfolding rowsFault ascendFrom trimmed
   rows-up l at [] r e = refl
   rows-up l at ([] ∷ []) r e = refl
   rows-up l at ((x ∷ m) ∷ []) r e = absurd (Option·some-ne-none _ e)
   rows-up l at (m ∷ n ∷ ls) r e =
-      let p = passed (some (keyOf (pieces 9 l))) at m n ls e in
+      let p = passed (some (rowKey (pieces 9 l))) at m n ls e in
       let s = row table m (p .0) in
-      rw (row-below (tabsOf table) l m r s (above-below (keyOf (pieces 9 l)) (keyOf (pieces 9 m)) (p .1))) (rows-up m (at + suc (length m)) (n ∷ ls) s (p .2))
+      rw (row-below (tabsOf table) l m r s (above-below (rowKey (pieces 9 l)) (rowKey (pieces 9 m)) (p .1))) (rows-up m (at + suc (length m)) (n ∷ ls) s (p .2))
 
-  first-up : (ps : List Tag) → rowsFault (shapeOf table) none 0 ps ≡ none → ascend (trimmed ps) ≡ true
+  first-up : (ps : List Tag) → rowsFault (shapeOf (kindIs table)) none 0 ps ≡ none → ascend (trimmed ps) ≡ true
   unfolding rowsFault ascend ascendFrom trimmed
   first-up [] e = refl
   first-up ([] ∷ []) e = refl
   first-up ((x ∷ m) ∷ []) e = refl
   first-up (m ∷ n ∷ ls) e = let p = passed none 0 m n ls e in rows-up m (0 + suc (length m)) (n ∷ ls) (row table m (p .0)) (p .2)
 
-  rows-last : (last : Option (List ℕ)) (at : ℕ) (ps : List Tag) → rowsFault (shapeOf table) last at ps ≡ none → last-empty ps ≡ true
+  rows-last : (last : Option (List ℕ)) (at : ℕ) (ps : List Tag) → rowsFault (shapeOf (kindIs table)) last at ps ≡ none → last-empty ps ≡ true
   unfolding rowsFault last-empty
   rows-last last at [] e = refl
   rows-last last at ([] ∷ []) e = refl
   rows-last last at ((x ∷ m) ∷ []) e = absurd (Option·some-ne-none _ e)
-  rows-last last at (l ∷ m ∷ ls) e = let p = passed last at l m ls e in rows-last (some (keyOf (pieces 9 l))) (at + suc (length l)) (m ∷ ls) (p .2)
+  rows-last last at (l ∷ m ∷ ls) e = let p = passed last at l m ls e in rows-last (some (rowKey (pieces 9 l))) (at + suc (length l)) (m ∷ ls) (p .2)
 
-  -- every row has its shape, and what comes after the last 0A is empty
-  pub rows-pass : (last : Option (List ℕ)) (at : ℕ) (ls : List Tag) → rowsFault (shapeOf table) last at ls ≡ none → Pass (shapeOf table) ls
-  unfolding rowsFault Pass
-  rows-pass last at [] e = tt
-  rows-pass last at ([] ∷ []) e = refl
-  rows-pass last at ((x ∷ l) ∷ []) e = absurd (Option·some-ne-none _ e)
-  rows-pass last at (l ∷ m ∷ ls) e = let p = passed last at l m ls e in (p .0, rows-pass (some (keyOf (pieces 9 l))) (at + suc (length l)) (m ∷ ls) (p .2))
-
-  pub sorted : (t : List ℕ) → rowsFault (shapeOf table) none 0 (rows t) ≡ none → Sorted t
+  pub sorted : (t : List ℕ) → rowsFault (shapeOf (kindIs table)) none 0 (rows t) ≡ none → Sorted t
   unfolding rows
   sorted t e = record { ended = opens-end t (rows-last none 0 (pieces 10 t) e); up = ap ascend (lines-trimmed t) ∙ first-up (pieces 10 t) e }

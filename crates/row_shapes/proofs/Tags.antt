@@ -4,7 +4,7 @@ use mathlib.Core.Path.{_≡_, refl, sym, ap, ap₂, _∙_}
 use mathlib.Core.Bool.{Bool, true, false, cond, _&&_, _||_}
 use mathlib.Core.List.{List, [], _∷_, map, head-eq-of-cons-eq, tail-eq-of-cons-eq}
 use mathlib.Core.Logic.{_⊎_, inl, inr, ⊎-elim}
-use Rattle.subtag.proofs.Walk.{le-or-lt}
+use Rattle.standard.proofs.General.{le-or-lt, bool-cases, and-true, both-ways, no}
 use Rattle.subtag.specs.Kinds.{sizeFrom}
 use Prim.Native.Nat.{ℕ, zero, suc, _+_, _-_, _≤_, _<_}
 use native.Mathlib.Numerals.{add-one}
@@ -12,26 +12,18 @@ use native.Mathlib.Omega.{arith}
 use lib.ListN.{length, getD, drop, drop-of-length-le, length-map}
 use lib.Seq.{drop-cons}
 use Rattle.standard.specs.Tag.{Tag, same}
-use Rattle.standard.specs.Grammar.{small, capital, digit, lowerByte, upperByte, every, title, upper, Size, empty, one, two, three, four, several, long, sizeOf, startsWithDigit, isLanguage, languageSize, Kind, aScript, aRegion, aVariant, aNone, kind, kindOf}
+use Rattle.standard.specs.Grammar.{small, capital, digit, lowerByte, upperByte, every, title, upper, Size, size0, size1, size2, size3, size4, size5to8, sizeOver8, sizeOf, startsWithDigit, isLanguage, languageSize, Kind, aScript, aRegion, aVariant, aNone, kind, kindOf}
 use Rattle.standard.specs.Reading.{ofKind}
 use Rattle.standard.specs.Table.{lower, inCanonicalCase, isWord, isVariantTag}
 use Rattle.standard.proofs.Tags.{same-eq, same-refl}
-use Rattle.standard.proofs.Bytes.{bool-cases, clash, and-true}
+use Rattle.standard.proofs.Shapes.{kind-script, kind-region}
+use Rattle.standard.proofs.Sound.{ofKind-eq}
 use Rattle.subtag.proofs.Bytes.{capital-in, small-in, digit-in, inside, under, over}
 use Rattle.subtag.specs.Subtags.{subtagOf, firstByte}
 use Rattle.subtag.proofs.Shapes as shapes
 use Rattle.subtag.proofs.Shapes.{language-from, kind-from, digit-first, every-count, size-from, size-empty, size-one, size-two, size-three, size-four, size-several, size-long}
 use Rattle.row_shapes.specs.declared.subtags.Bytes.the-variants.{Word}
 use Rattle.row_shapes.specs.Shapes.{allowed, isScript, isRegion}
-
--- two tests that pass together are one
-pub both-ways : (a b : Bool) → (a ≡ true → b ≡ true) → (b ≡ true → a ≡ true) → a ≡ b
-both-ways true b f g = sym (f refl)
-both-ways false true f g = g refl
-both-ways false false f g = refl
-
-no : {P : Type 0} → false ≡ true → P
-no e = clash {b = true} refl (sym e)
 
 -- The loop over the bytes of a subtag.
 module _ (p : ℕ → Bool) (s : List ℕ) (i : ℕ) where
@@ -162,13 +154,13 @@ module _ (t : Tag) where
 
 -- Scripts and regions: what a kind says of the size.
 abbrev code : Size → ℕ
-code empty = 0
-code one = 1
-code two = 2
-code three = 3
-code four = 4
-code several = 5
-code long = 9
+code size0 = 0
+code size1 = 1
+code size2 = 2
+code size3 = 3
+code size4 = 4
+code size5to8 = 5
+code sizeOver8 = 9
 
 size-code : (n : ℕ) → (n ≡ code (sizeFrom n)) ⊎ ((5 ≤ n) × (5 ≤ code (sizeFrom n)))
 size-code zero = inl (sym (ap code (size-empty 0 refl)))
@@ -189,33 +181,13 @@ size-length t s e h =
     let f : code (sizeFrom (length t)) ≡ code s = ap (λ (n : ℕ). code (sizeFrom n)) (sym (lower-length t)) ∙ ap code (sym (size-from (lower t)) ∙ e) in
     ⊎-elim (λ g. g ∙ f) (λ g. absurd (omega (arith, g .1))) (size-code (length t))
 
-kind-script : (s : Size) (l d n : Bool) → ofKind aScript (kind s l d n) ≡ true → (s ≡ four) × (l ≡ true)
-unfolding kind ofKind
-kind-script empty l d n e = no e
-kind-script one l d n e = no e
-kind-script two true d n e = no e
-kind-script two false d n e = no e
-kind-script three l true n e = no e
-kind-script three l false n e = no e
-kind-script four true d n e = (refl, refl)
-kind-script four false d true e = no e
-kind-script four false d false e = no e
-kind-script several l d n e = no e
-kind-script long l d n e = no e
+-- the same of the tests of a kind
+module _ (s : Size) (l d n : Bool) where
+  of-script : ofKind aScript (kind s l d n) ≡ true → (s ≡ size4) × (l ≡ true)
+  of-script e = kind-script s l d n (ofKind-eq aScript (kind s l d n) e)
 
-kind-region : (s : Size) (l d n : Bool) → ofKind aRegion (kind s l d n) ≡ true → ((s ≡ two) × (l ≡ true)) ⊎ ((s ≡ three) × (d ≡ true))
-unfolding kind ofKind
-kind-region empty l d n e = no e
-kind-region one l d n e = no e
-kind-region two true d n e = inl (refl, refl)
-kind-region two false d n e = no e
-kind-region three l true n e = inr (refl, refl)
-kind-region three l false n e = no e
-kind-region four true d n e = no e
-kind-region four false d true e = no e
-kind-region four false d false e = no e
-kind-region several l d n e = no e
-kind-region long l d n e = no e
+  of-region : ofKind aRegion (kind s l d n) ≡ true → ((s ≡ size2) × (l ≡ true)) ⊎ ((s ≡ size3) × (d ≡ true))
+  of-region e = kind-region s l d n (ofKind-eq aRegion (kind s l d n) e)
 
 -- a script is not a region
 pub script-not-region : (t : Tag) → isScript t ≡ true → isRegion t ≡ false
@@ -232,8 +204,8 @@ module _ (t : Tag) where
   script-four : isScript t ≡ true → length t ≡ 4
   unfolding isScript inCanonicalCase kindOf
   script-four e =
-      let k = kind-script (sizeOf (lower t)) (every small (lower t)) (every digit (lower t)) (startsWithDigit (lower t)) ((and-true (ofKind aScript (kindOf (lower t))) (same (title (lower t)) t) e) .0) in
-      size-length t four (k .0) (omega arith)
+      let k = of-script (sizeOf (lower t)) (every small (lower t)) (every digit (lower t)) (startsWithDigit (lower t)) ((and-true (ofKind aScript (kindOf (lower t))) (same (title (lower t)) t) e) .0) in
+      size-length t size4 (k .0) (omega arith)
 
   pub script-size : (length t ≡ 4 → ⊥) → false ≡ isScript t
   script-size f = bool-cases (isScript t) (λ e. absurd (f (script-four e))) sym
@@ -241,14 +213,14 @@ module _ (t : Tag) where
   region-length : isRegion t ≡ true → (length t ≡ 2) ⊎ (length t ≡ 3)
   unfolding isRegion inCanonicalCase kindOf
   region-length e =
-      let k = kind-region (sizeOf (lower t)) (every small (lower t)) (every digit (lower t)) (startsWithDigit (lower t)) ((and-true (ofKind aRegion (kindOf (lower t))) (same (upper (lower t)) t) e) .0) in
-      ⊎-elim (λ h. inl (size-length t two (h .0) (omega arith))) (λ h. inr (size-length t three (h .0) (omega arith))) k
+      let k = of-region (sizeOf (lower t)) (every small (lower t)) (every digit (lower t)) (startsWithDigit (lower t)) ((and-true (ofKind aRegion (kindOf (lower t))) (same (upper (lower t)) t) e) .0) in
+      ⊎-elim (λ h. inl (size-length t size2 (h .0) (omega arith))) (λ h. inr (size-length t size3 (h .0) (omega arith))) k
 
   pub region-size : (length t ≡ 2 → ⊥) → (length t ≡ 3 → ⊥) → false ≡ isRegion t
   region-size f g = bool-cases (isRegion t) (λ e. absurd (⊎-elim f g (region-length e))) sym
 
 -- the bytes of a script
-four-letters : (d n : Bool) → (ofKind aScript (kind four true d n) && true) ≡ true
+four-letters : (d n : Bool) → (ofKind aScript (kind size4 true d n) && true) ≡ true
 unfolding kind ofKind
 four-letters d n = refl
 
@@ -256,11 +228,11 @@ script-bytes : (a b c d : ℕ) → isScript (a ∷ b ∷ c ∷ d ∷ []) ≡ (ca
 unfolding isScript inCanonicalCase kindOf sizeOf lower title
 script-bytes a b c d = both-ways _ _ there back
   where
-    there : (ofKind aScript (kind four (every small (lower (a ∷ b ∷ c ∷ d ∷ []))) (every digit (lower (a ∷ b ∷ c ∷ d ∷ []))) (startsWithDigit (lower (a ∷ b ∷ c ∷ d ∷ [])))) && same (title (lower (a ∷ b ∷ c ∷ d ∷ []))) (a ∷ b ∷ c ∷ d ∷ [])) ≡ true
+    there : (ofKind aScript (kind size4 (every small (lower (a ∷ b ∷ c ∷ d ∷ []))) (every digit (lower (a ∷ b ∷ c ∷ d ∷ []))) (startsWithDigit (lower (a ∷ b ∷ c ∷ d ∷ [])))) && same (title (lower (a ∷ b ∷ c ∷ d ∷ []))) (a ∷ b ∷ c ∷ d ∷ [])) ≡ true
         → (capital a && every small (b ∷ c ∷ d ∷ [])) ≡ true
     there e =
         let h = and-true _ _ e in
-        let k = (kind-script four (every small (lower (a ∷ b ∷ c ∷ d ∷ []))) (every digit (lower (a ∷ b ∷ c ∷ d ∷ []))) (startsWithDigit (lower (a ∷ b ∷ c ∷ d ∷ []))) (h .0)) .1 in
+        let k = (of-script size4 (every small (lower (a ∷ b ∷ c ∷ d ∷ []))) (every digit (lower (a ∷ b ∷ c ∷ d ∷ []))) (startsWithDigit (lower (a ∷ b ∷ c ∷ d ∷ []))) (h .0)) .1 in
         let q = same-eq (title (lower (a ∷ b ∷ c ∷ d ∷ []))) (a ∷ b ∷ c ∷ d ∷ []) (h .1) in
         let m = every-both small (lowerByte a) (lower (b ∷ c ∷ d ∷ [])) k in
         let r : lower (b ∷ c ∷ d ∷ []) ≡ b ∷ c ∷ d ∷ [] = tail-eq-of-cons-eq q in
@@ -268,11 +240,11 @@ script-bytes a b c d = both-ways _ _ there back
         rw (back-capital a (m .0) (head-eq-of-cons-eq q), u)
 
     passes : every small (lower (a ∷ b ∷ c ∷ d ∷ [])) ≡ true → same (title (lower (a ∷ b ∷ c ∷ d ∷ []))) (a ∷ b ∷ c ∷ d ∷ []) ≡ true
-        → (ofKind aScript (kind four (every small (lower (a ∷ b ∷ c ∷ d ∷ []))) (every digit (lower (a ∷ b ∷ c ∷ d ∷ []))) (startsWithDigit (lower (a ∷ b ∷ c ∷ d ∷ [])))) && same (title (lower (a ∷ b ∷ c ∷ d ∷ []))) (a ∷ b ∷ c ∷ d ∷ [])) ≡ true
+        → (ofKind aScript (kind size4 (every small (lower (a ∷ b ∷ c ∷ d ∷ []))) (every digit (lower (a ∷ b ∷ c ∷ d ∷ []))) (startsWithDigit (lower (a ∷ b ∷ c ∷ d ∷ [])))) && same (title (lower (a ∷ b ∷ c ∷ d ∷ []))) (a ∷ b ∷ c ∷ d ∷ [])) ≡ true
     passes l q = rw (q, l) (four-letters (every digit (lower (a ∷ b ∷ c ∷ d ∷ []))) (startsWithDigit (lower (a ∷ b ∷ c ∷ d ∷ []))))
 
     back : (capital a && every small (b ∷ c ∷ d ∷ [])) ≡ true
-        → (ofKind aScript (kind four (every small (lower (a ∷ b ∷ c ∷ d ∷ []))) (every digit (lower (a ∷ b ∷ c ∷ d ∷ []))) (startsWithDigit (lower (a ∷ b ∷ c ∷ d ∷ [])))) && same (title (lower (a ∷ b ∷ c ∷ d ∷ []))) (a ∷ b ∷ c ∷ d ∷ [])) ≡ true
+        → (ofKind aScript (kind size4 (every small (lower (a ∷ b ∷ c ∷ d ∷ []))) (every digit (lower (a ∷ b ∷ c ∷ d ∷ []))) (startsWithDigit (lower (a ∷ b ∷ c ∷ d ∷ [])))) && same (title (lower (a ∷ b ∷ c ∷ d ∷ []))) (a ∷ b ∷ c ∷ d ∷ [])) ≡ true
     back e =
         let h = and-true (capital a) (every small (b ∷ c ∷ d ∷ [])) e in
         let r = smalls-lower (b ∷ c ∷ d ∷ []) (h .1) in
@@ -297,31 +269,31 @@ module _ (t : Tag) where
   unfolding isRegion inCanonicalCase
   region-on k e f q = rw (e, f, q, same-refl t)
 
-  region-off : isRegion t ≡ true → (((sizeOf (lower t) ≡ two) × (every small (lower t) ≡ true)) ⊎ ((sizeOf (lower t) ≡ three) × (every digit (lower t) ≡ true))) × (upper (lower t) ≡ t)
+  region-off : isRegion t ≡ true → (((sizeOf (lower t) ≡ size2) × (every small (lower t) ≡ true)) ⊎ ((sizeOf (lower t) ≡ size3) × (every digit (lower t) ≡ true))) × (upper (lower t) ≡ t)
   unfolding isRegion inCanonicalCase kindOf
   region-off e =
       let h = and-true (ofKind aRegion (kindOf (lower t))) (same (upper (lower t)) t) e in
-      (kind-region (sizeOf (lower t)) (every small (lower t)) (every digit (lower t)) (startsWithDigit (lower t)) (h .0), same-eq (upper (lower t)) t (h .1))
+      (of-region (sizeOf (lower t)) (every small (lower t)) (every digit (lower t)) (startsWithDigit (lower t)) (h .0), same-eq (upper (lower t)) t (h .1))
 
   kind-two : length t ≡ 2 → every small (lower t) ≡ true → kindOf (lower t) ≡ aRegion
   unfolding kindOf kind
-  kind-two e f = rw (lower-size two (size-two (length t) e), f)
+  kind-two e f = rw (lower-size size2 (size-two (length t) e), f)
 
   kind-three : length t ≡ 3 → every digit (lower t) ≡ true → kindOf (lower t) ≡ aRegion
   unfolding kindOf kind
-  kind-three e f = rw (lower-size three (size-three (length t) e), f)
+  kind-three e f = rw (lower-size size3 (size-three (length t) e), f)
 
   pub region-two : length t ≡ 2 → every capital t ≡ isRegion t
   unfolding ofKind
   region-two e = both-ways (every capital t) (isRegion t)
       (λ f. let h = capitals-back t f in region-on aRegion (kind-two e (h .0)) refl (h .1))
-      (λ f. let h = region-off f in ⊎-elim (λ g. capitals t (g .1) (h .1)) (λ g. let z = size-length t three (g .0) (omega arith) in absurd (omega arith)) (h .0))
+      (λ f. let h = region-off f in ⊎-elim (λ g. capitals t (g .1) (h .1)) (λ g. let z = size-length t size3 (g .0) (omega arith) in absurd (omega arith)) (h .0))
 
   pub region-three : length t ≡ 3 → every digit t ≡ isRegion t
   unfolding ofKind
   region-three e = both-ways (every digit t) (isRegion t)
       (λ f. let l = digits-lower t f in region-on aRegion (kind-three e (ap (every digit) l ∙ f)) refl (ap upper l ∙ digits-upper t f))
-      (λ f. let h = region-off f in ⊎-elim (λ g. let z = size-length t two (g .0) (omega arith) in absurd (omega arith)) (λ g. digits t (g .1)) (h .0))
+      (λ f. let h = region-off f in ⊎-elim (λ g. let z = size-length t size2 (g .0) (omega arith) in absurd (omega arith)) (λ g. digits t (g .1)) (h .0))
 
   -- Variants.
   variant-by : (k : Kind) → kindOf t ≡ k → ofKind aVariant k ≡ false → false ≡ isVariantTag t
@@ -345,15 +317,15 @@ module _ (t : Tag) where
   kind-short h = ⊎-elim (λ g. go (sizeOf t) (every small t) (every digit t) (startsWithDigit t) (omega (arith, g ∙ ap code (sym (size-from t))))) (λ g. absurd (omega (arith, g .0))) (size-code (length t))
     where
       go : (s : Size) (l d n : Bool) → code s < 4 → ofKind aVariant (kind s l d n) ≡ false
-      go empty l d n h = refl
-      go one l d n h = refl
-      go two true d n h = refl
-      go two false d n h = refl
-      go three l true n h = refl
-      go three l false n h = refl
-      go four l d n h = absurd (omega arith)
-      go several l d n h = absurd (omega arith)
-      go long l d n h = absurd (omega arith)
+      go size0 l d n h = refl
+      go size1 l d n h = refl
+      go size2 true d n h = refl
+      go size2 false d n h = refl
+      go size3 l true n h = refl
+      go size3 l false n h = refl
+      go size4 l d n h = absurd (omega arith)
+      go size5to8 l d n h = absurd (omega arith)
+      go sizeOver8 l d n h = absurd (omega arith)
 
   pub variant-short : length t < 4 → false ≡ isVariantTag t
   variant-short h = variant-by (kindOf t) refl (kind-short h)
@@ -381,7 +353,7 @@ module _ (t : Tag) where
       start : startsWithDigit t ≡ false
       start = digit-first t ∙ ap digit (first-byte (omega arith)) ∙ f
 
-      fours : (l d : Bool) → ofKind aVariant (kind four l d false) ≡ false
+      fours : (l d : Bool) → ofKind aVariant (kind size4 l d false) ≡ false
       fours true d = refl
       fours false d = refl
 

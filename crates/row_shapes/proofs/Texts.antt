@@ -12,18 +12,17 @@ use lib.Dec.{ltb, eqb}
 use lib.ListN.{length, getD, take, drop, length-append, length-drop, List·getD-eq-default}
 use lib.Seq.{split-at, getD-drop, take-append-seam, getD-append-seam, drop-at, drop-drop, take-all, take-take, length-take-le}
 use borrow.Author.Tests.{lt-ltb, ltb-true, eq-eqb, ne-eqb, eqb-true, lt-leb}
-use Rattle.standard.specs.Tag.{Tag, same, order}
+use Rattle.standard.specs.Tag.{Tag, same, order, All}
 use Rattle.standard.specs.Grammar.{small, capital, digit, every, isLanguage}
 use Rattle.standard.specs.Identifier.{three, und}
 use Rattle.standard.specs.Reading.{fault}
-use Rattle.standard.specs.Table.{pieces, rowsFault, parse, isThree, languageIsUnd, isVariantTag, likelyShape, parentShape, aliasShape}
-use Rattle.standard.proofs.Tags.{All}
-use Rattle.standard.proofs.Bytes.{bool-cases, clash, and-true}
+use Rattle.standard.specs.Table.{pieces, rowsFault, parse, isThree, languageIsUnd, isVariantTag, likelyShape, parentShape, aliasShape, shapeOf}
+use Rattle.standard.proofs.General.{bool-cases, clash, and-true, both-ways, le-or-lt, no}
 use Rattle.subtag.proofs.Bytes.{small-in, capital-in, digit-in}
 use Rattle.byte_string.specs.Strings.{endOf}
 use Rattle.table.specs.Lines.{starts}
 use Rattle.byte_string.proofs.Stores.{all-from}
-use Rattle.row_shapes.specs.declared.three.Front.{Front}
+use Rattle.row_shapes.specs.declared.lsr.Front.{Front}
 use Rattle.row_shapes.specs.declared.pairs.Pair.{Pair}
 use Rattle.row_shapes.specs.declared.pairs.Line.{Line}
 use Rattle.row_shapes.specs.declared.aliases.Fields.{Fields}
@@ -32,19 +31,16 @@ use Rattle.row_shapes.specs.declared.aliases.AliasKind.the-variants.{Lan
 use Rattle.row_shapes.specs.declared.Table.{Table}
 use Rattle.row_shapes.specs.declared.Table.the-variants.{Aliases, Likely, Parents}
 use Rattle.row_shapes.specs.Shapes.{isScript, isRegion, between, others, noMore, FrontAt, ThreeAt}
-use Rattle.row_shapes.specs.Rows.{isKnown, knownParts, languageName, kindNamed, languageAlias, shapeBy, AliasAt, PairIn, PairAt, LineAt, shapeOf, keyEnd, secondTab}
-use Rattle.row_shapes.proofs.Tags.{both-ways, language-every, script-every, region-every, variant-every}
+use Rattle.row_shapes.specs.Rows.{isKnown, knownParts, languageName, kindNamed, languageAlias, shapeBy, AliasAt, PairIn, PairAt, LineAt, kindIs, keyEnd, secondTab}
+use Rattle.row_shapes.proofs.Tags.{language-every, script-every, region-every, variant-every}
 use Rattle.row_shapes.proofs.Pieces.{Free, pieces-more, pieces-alone, pieces-first, others-at, others-none, more-some}
-use Rattle.row_shapes.proofs.Threes.{three-ok, three-text}
+use Rattle.row_shapes.proofs.Threes.{three-ok}
+use Rattle.standard.proofs.Table.{three-printed as three-text, pieces-some}
 use Rattle.row_shapes.proofs.Fronts.{led, printed-led}
 use Rattle.row_shapes.proofs.Sorted.{every-append}
 use Rattle.row_shapes.proofs.Passes.{row-split, lastOf, pass-short, pass-shape}
 use Rattle.row_shapes.proofs.Judges.{known-is, alias-by}
-use Rattle.subtag.proofs.Walk.{le-or-lt}
-use Rattle.table.proofs.Lines.{pieces-some, drop-take}
-
-no : {P : Type 0} → false ≡ true → P
-no e = clash {b = true} refl (sym e)
+use Rattle.table.proofs.Lines.{drop-take}
 
 -- The bytes of subtags, and the separator, are above every byte that ends a field.
 above : ℕ → Bool
@@ -286,10 +282,10 @@ pub record TwoThrees (ts : List Tag) : Type 0 where
   pub value : isThree second ≡ true
 
 unfoldable pub two-threes : Table → Type 0
-two-threes table = (ts : List Tag) → shapeOf table ts ≡ true → TwoThrees ts
+two-threes table = (ts : List Tag) → shapeOf (kindIs table) ts ≡ true → TwoThrees ts
 
 pub likely-two : two-threes Likely
-unfolding two-threes shapeOf likelyShape
+unfolding two-threes kindIs shapeOf likelyShape
 likely-two [] e = no e
 likely-two (a ∷ []) e = no e
 likely-two (k ∷ v ∷ []) e =
@@ -298,7 +294,7 @@ likely-two (k ∷ v ∷ []) e =
 likely-two (a ∷ b ∷ c ∷ ts) e = no e
 
 pub parent-two : two-threes Parents
-unfolding two-threes shapeOf parentShape
+unfolding two-threes kindIs shapeOf parentShape
 parent-two [] e = no e
 parent-two (a ∷ []) e = no e
 parent-two (k ∷ v ∷ []) e =
@@ -308,7 +304,7 @@ parent-two (a ∷ b ∷ c ∷ ts) e = no e
 
 -- no row
 abbrev NoLine : Table → List ℕ → Type 0
-NoLine table s = endOf 10 s 0 < length s → shapeOf table (pieces 9 (take (endOf 10 s 0) s)) ≡ true → ⊥
+NoLine table s = endOf 10 s 0 < length s → shapeOf (kindIs table) (pieces 9 (take (endOf 10 s 0) s)) ≡ true → ⊥
 
 pub no-line : (table : Table) (s : List ℕ) (x : Line) → x .ok ≡ false → NoLine table s → LineAt table s x
 no-line table s x e n = record { yes = λ g. clash g e; no = λ _. n }
@@ -322,16 +318,16 @@ module _ (s : List ℕ) (r : Pair) (f : PairAt s r) where
     abbrev both : List Tag
     both = take (r .tab) s ∷ between s (r .tab) (r .end) ∷ []
 
-    pub pair-refused : shapeOf table both ≡ false → NoLine table s
+    pub pair-refused : shapeOf (kindIs table) both ≡ false → NoLine table s
     pair-refused n h e =
         let g = found s r (f .yes q) in
-        clash (sym (ap (shapeOf table) (g .fields)) ∙ ap (λ (i : ℕ). shapeOf table (pieces 9 (take i s))) (g .end) ∙ e) n
+        clash (sym (ap (shapeOf (kindIs table)) (g .fields)) ∙ ap (λ (i : ℕ). shapeOf (kindIs table) (pieces 9 (take i s))) (g .end) ∙ e) n
 
-    pub pair-row : ((l : List ℕ) → keyEnd table l ≡ endOf 9 l 0) → shapeOf table both ≡ true → LineAt table s (record { ok = true; key = r .tab; end = r .end })
+    pub pair-row : ((l : List ℕ) → keyEnd table l ≡ endOf 9 l 0) → shapeOf (kindIs table) both ≡ true → LineAt table s (record { ok = true; key = r .tab; end = r .end })
     pair-row k e =
         let g = found s r (f .yes q) in
         record {
-          yes = λ _. record { end = g .end; high = f .yes q .high; shape = ap (shapeOf table) (g .fields) ∙ e; key = g .key ∙ sym (k (take (r .end) s)) };
+          yes = λ _. record { end = g .end; high = f .yes q .high; shape = ap (shapeOf (kindIs table)) (g .fields) ∙ e; key = g .key ∙ sym (k (take (r .end) s)) };
           no = λ n. clash {b = true} refl n;
         }
 
@@ -347,12 +343,12 @@ module _ (s : List ℕ) (r : Pair) (f : PairIn s r) where
   abbrev value : List ℕ
   value = between s (r .tab) (r .end)
 
-  pub likely-is : (b : Bool) → b ≡ knownParts (take (r .language) value) (between value (r .language) (r .script)) (drop (r .script + 1) value) → shapeOf Likely (take (r .tab) s ∷ value ∷ []) ≡ b
-  unfolding shapeOf likelyShape isKnown
+  pub likely-is : (b : Bool) → b ≡ knownParts (take (r .language) value) (between value (r .language) (r .script)) (drop (r .script + 1) value) → shapeOf (kindIs Likely) (take (r .tab) s ∷ value ∷ []) ≡ b
+  unfolding kindIs shapeOf likelyShape isKnown
   likely-is b e = rw (f .key) (sym (e ∙ known-is value (record { ok = true; language = r .language; script = r .script }) (f .value) refl))
 
-  pub parent-is : (b : Bool) → b ≡ same (take (r .tab) s) und → shapeOf Parents (take (r .tab) s ∷ value ∷ []) ≡ not b
-  unfolding shapeOf parentShape
+  pub parent-is : (b : Bool) → b ≡ same (take (r .tab) s) und → shapeOf (kindIs Parents) (take (r .tab) s ∷ value ∷ []) ≡ not b
+  unfolding kindIs shapeOf parentShape
   parent-is b e = rw (f .key, ← e, sym (f .value .is)) (last b)
     where
       last : (c : Bool) → (not c && true) ≡ not c
@@ -409,11 +405,11 @@ module _ (s : List ℕ) (e : ℕ) (q : e ≡ endOf 10 s 0) where
 
   module _ (f : Fields) (a : AliasAt (take e s) f) where
     pub alias-refused : f .ok ≡ false → NoLine Aliases s
-    unfolding shapeOf
+    unfolding kindIs shapeOf
     alias-refused h g n = clash (a .is ∙ ap (λ (i : ℕ). aliasShape (pieces 9 (take i s))) q ∙ n) h
 
     pub alias-accepted : e < length s → f .ok ≡ true → LineAt Aliases s (record { ok = true; key = f .tab; end = e })
-    unfolding shapeOf
+    unfolding kindIs shapeOf
     alias-accepted g h = record { yes = λ _. record { end = q; high = g; shape = sym (a .is) ∙ h; key = a .key h }; no = λ n. clash {b = true} refl n }
 
 pub line-as : {k : Table} (s : List ℕ) (t : Table) (r : Line) → k ≡ t → LineAt t s r → LineAt k s r
@@ -429,7 +425,7 @@ end-shift b (x ∷ s) (suc i) h = let n = end-shift b s i (omega arith) in let k
 pub record RowIn (table : Table) (t : List ℕ) (i : ℕ) (r : Line) : Type 0 where
   pub end : i + r .end ≡ endOf 10 t i
   pub high : i + r .end < length t
-  pub shape : shapeOf table (pieces 9 (take (i + r .end - i) (drop i t))) ≡ true
+  pub shape : shapeOf (kindIs table) (pieces 9 (take (i + r .end - i) (drop i t))) ≡ true
   pub key : r .key ≡ keyEnd table (take (i + r .end - i) (drop i t))
 
 module _ (table : Table) (t : List ℕ) (i : ℕ) (h : i < length t) (r : Line) (f : LineAt table (take (length t - i) (drop i t)) r) where
@@ -448,13 +444,13 @@ module _ (table : Table) (t : List ℕ) (i : ℕ) (h : i < length t) (r : Line) 
         key = rw z (g .key);
       }
 
-  pub row-off : (before : List ℕ) → r .ok ≡ false → fault 12 i ≡ rowsFault (shapeOf table) (lastOf before) i (pieces 10 (drop i t))
+  pub row-off : (before : List ℕ) → r .ok ≡ false → fault 12 i ≡ rowsFault (shapeOf (kindIs table)) (lastOf before) i (pieces 10 (drop i t))
   row-off before e =
       ⊎-elim (λ g. pass-short table t before i (endOf 10 t i) refl h g)
-      (λ g. pass-shape table t before i (endOf 10 t i) refl h g (bool-cases (shapeOf table (pieces 9 (take (endOf 10 t i - i) (drop i t)))) (λ p. absurd (none g p)) (λ p. p)))
+      (λ g. pass-shape table t before i (endOf 10 t i) refl h g (bool-cases (shapeOf (kindIs table) (pieces 9 (take (endOf 10 t i - i) (drop i t)))) (λ p. absurd (none g p)) (λ p. p)))
       (le-or-lt (length t) (endOf 10 t i))
     where
-      none : endOf 10 t i < length t → shapeOf table (pieces 9 (take (endOf 10 t i - i) (drop i t))) ≡ true → ⊥
+      none : endOf 10 t i < length t → shapeOf (kindIs table) (pieces 9 (take (endOf 10 t i - i) (drop i t))) ≡ true → ⊥
       none g p =
           let n = end-shift 10 t i (omega arith) in
           let z : endOf 10 t i - i ≡ endOf 10 (drop i t) 0 = omega arith in

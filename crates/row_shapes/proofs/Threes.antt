@@ -8,21 +8,18 @@ use Prim.Native.Nat.{ℕ, _+_, _-_}
 use native.Mathlib.Omega.{arith}
 use lib.Dec.{eqb}
 use borrow.Author.Tests.{ne-eqb, not-true}
-use Rattle.standard.specs.Tag.{Tag, same}
+use Rattle.standard.specs.Tag.{Tag, same, All}
 use Rattle.standard.specs.Grammar.{small, capital, digit, every, isLanguage, title, upper, Kind, aScript, aRegion}
 use Rattle.standard.specs.Identifier.{Three as Subtags, three}
 use Rattle.standard.specs.Reading.{optional, joined}
 use Rattle.standard.specs.Table.{pieces, inCanonicalCase, findInCase, threeOf, parse, printThree, isThree}
-use Rattle.standard.proofs.Tags.{All, same-eq, same-refl}
-use Rattle.standard.proofs.Bytes.{bool-cases, clash, and-true}
-use Rattle.table.proofs.Lines.{pieces-some}
+use Rattle.standard.proofs.Tags.{same-eq, same-refl}
+use Rattle.standard.proofs.General.{bool-cases, clash, and-true, both-ways, no}
+use Rattle.standard.proofs.Table.{pieces-some}
 use Rattle.row_shapes.specs.Shapes.{isScript, isRegion, noMore, regionTail}
 use Rattle.subtag.proofs.Bytes.{small-in, capital-in, digit-in}
-use Rattle.row_shapes.proofs.Tags.{both-ways, script-not-region, script-size, region-size, language-every, script-every, region-every}
+use Rattle.row_shapes.proofs.Tags.{script-not-region, script-size, region-size, language-every, script-every, region-every}
 use Rattle.row_shapes.proofs.Pieces.{Free, pieces-free, joined-pieces, pieces-joined}
-
-no : {P : Type 0} → false ≡ true → P
-no e = clash {b = true} refl (sym e)
 
 -- the first script, and the first region
 abbrev scriptOf : List Tag → Tag
@@ -259,8 +256,3 @@ module _ (t : Subtags) (o : ThreeOk t) where
   parse-print =
       parse-pieces (printThree t) (t .language) tags printed
       ∙ ap₂ (three (t .language)) (found-script (t .script) (t .region) (o .script) (o .region)) (found-region (t .script) (t .region) (o .script) (o .region))
-
--- a text is its subtags, printed
-pub three-text : (s : List ℕ) → isThree s ≡ true → printThree (parse s) ≡ s
-unfolding isThree
-three-text s e = same-eq (printThree (parse s)) s ((and-true (isLanguage ((parse s) .language)) (same (printThree (parse s)) s) e) .1)

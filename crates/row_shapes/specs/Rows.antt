@@ -5,10 +5,10 @@ use mathlib.Core.Bool.{Bool, true, false, cond, not, _&&_}
 use mathlib.Core.List.{List, [], _∷_, _++_}
 use Prim.Native.Nat.{ℕ, _+_, _<_}
 use lib.ListN.{length, take, drop}
-use Rattle.standard.specs.Tag.{Tag, same, present}
+use Rattle.standard.specs.Tag.{Tag, text, same, present}
 use Rattle.standard.specs.Grammar.{isLanguage}
 use Rattle.standard.specs.Identifier.{und, zzzz, zz, complete, withoutUnknown, sameThree}
-use Rattle.standard.specs.Table.{pieces, parse, isThree, languageIsUnd, isVariantTag, aliasShape, likelyShape, parentShape}
+use Rattle.standard.specs.Table.{pieces, parse, isThree, languageIsUnd, isVariantTag, aliasShape, TableKind, aliases, likely, parents, shapeOf}
 use Rattle.row_shapes.specs.declared.aliases.Fields.{Fields}
 use Rattle.row_shapes.specs.declared.pairs.Pair.{Pair}
 use Rattle.row_shapes.specs.declared.pairs.Line.{Line}
@@ -33,16 +33,16 @@ knownParts l s r = cond (present s) (cond (present r) (cond (same l und) false (
 
 -- the names of the kinds
 abbrev pub languageName : Tag
-languageName = 108 ∷ 97 ∷ 110 ∷ 103 ∷ 117 ∷ 97 ∷ 103 ∷ 101 ∷ []
+languageName = text "language"
 
 abbrev pub scriptName : Tag
-scriptName = 115 ∷ 99 ∷ 114 ∷ 105 ∷ 112 ∷ 116 ∷ []
+scriptName = text "script"
 
 abbrev pub regionName : Tag
-regionName = 114 ∷ 101 ∷ 103 ∷ 105 ∷ 111 ∷ 110 ∷ []
+regionName = text "region"
 
 abbrev pub variantName : Tag
-variantName = 118 ∷ 97 ∷ 114 ∷ 105 ∷ 97 ∷ 110 ∷ 116 ∷ []
+variantName = text "variant"
 
 abbrev pub pickKind : Bool → AliasKind → AliasKind → AliasKind
 pickKind true a b = a
@@ -62,11 +62,11 @@ shapeBy Region key value = isRegion key && isRegion value
 shapeBy Variant key value = isVariantTag key && isVariantTag value
 shapeBy Unknown key value = false
 
--- the shape that a table's rows have
-unfoldable pub shapeOf : Table → List Tag → Bool
-shapeOf Aliases ts = aliasShape ts
-shapeOf Likely ts = likelyShape ts
-shapeOf Parents ts = parentShape ts
+-- the standard's kind of a table
+unfoldable pub kindIs : Table → TableKind
+kindIs Aliases = aliases
+kindIs Likely = likely
+kindIs Parents = parents
 
 -- where the key ends
 unfoldable pub secondTab : List ℕ → ℕ → ℕ
@@ -98,12 +98,12 @@ pub record PairAt (s : List ℕ) (r : Pair) : Type 0 where
 pub record LineIn (table : Table) (s : List ℕ) (r : Line) : Type 0 where
   pub end : r .end ≡ endOf 10 s 0
   pub high : r .end < length s
-  pub shape : shapeOf table (pieces 9 (take (r .end) s)) ≡ true
+  pub shape : shapeOf (kindIs table) (pieces 9 (take (r .end) s)) ≡ true
   pub key : r .key ≡ keyEnd table (take (r .end) s)
 
 pub record LineAt (table : Table) (s : List ℕ) (r : Line) : Type 0 where
   pub yes : r .ok ≡ true → LineIn table s r
-  pub no : r .ok ≡ false → endOf 10 s 0 < length s → shapeOf table (pieces 9 (take (endOf 10 s 0) s)) ≡ true → ⊥
+  pub no : r .ok ≡ false → endOf 10 s 0 < length s → shapeOf (kindIs table) (pieces 9 (take (endOf 10 s 0) s)) ≡ true → ⊥
 
 -- the standard's fault that an answer stands for
 abbrev pub faultIs : Rows → Option Fault

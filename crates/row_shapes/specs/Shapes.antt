@@ -12,8 +12,8 @@ use Rattle.standard.specs.Identifier.{three}
 use Rattle.standard.specs.Table.{inCanonicalCase, pieces, isThree, parse}
 use Rattle.row_shapes.specs.declared.subtags.Bytes.{Bytes}
 use Rattle.row_shapes.specs.declared.subtags.Bytes.the-variants.{Small, Capital, Digit, Word}
-use Rattle.row_shapes.specs.declared.three.Three.{Three}
-use Rattle.row_shapes.specs.declared.three.Front.{Front}
+use Rattle.row_shapes.specs.declared.lsr.Three.{Three}
+use Rattle.row_shapes.specs.declared.lsr.Front.{Front}
 
 -- the bytes of a kind
 unfoldable pub allowed : Bytes → ℕ → Bool

@@ -1,12 +1,12 @@
 // The rows of the alias table: a kind, a key and a value.
 use crate::Table;
+use crate::lsr::three_of;
 use crate::pairs::Line;
 use crate::pairs::no_line;
 use crate::subtags::is_language;
 use crate::subtags::is_region;
 use crate::subtags::is_script;
 use crate::subtags::is_variant;
-use crate::three::three_of;
 ghost use mathlib.Core.Path.{_≡_};
 ghost use mathlib.Core.Bool.{false};
 ghost use lib.ListN.{take};
@@ -33,7 +33,7 @@ pub enum AliasKind {
     Unknown,
 }
 
-pub fn kind_named(name: &[u8]) -> AliasKind
+pub(crate) fn kind_named(name: &[u8]) -> AliasKind
     ensures { λ r. ⌜ r ≡ kindNamed (now (name .entry)) ⌝ }
 {
     if equals(name, b"language") {
@@ -149,7 +149,7 @@ fn alias_line(line: &[u8]) -> Fields
     Fields { ok, tab }
 }
 
-pub fn alias_row(s: &[u8]) -> Line
+pub(crate) fn alias_row(s: &[u8]) -> Line
     ensures { λ r. ⌜ LineAt Table.Aliases (now (s .entry)) r ⌝ }
 {
     let end = byte_string::end_of(s, 10, 0);

@@ -1,8 +1,8 @@
-// The rows of the three tables: their shape (12) and their order (13).
+// Inner. The rows of the three tables: their shape (12) and their order (13).
 pub mod aliases;
+pub mod lsr;
 mod pairs;
 mod subtags;
-pub mod three;
 
 use crate::aliases::alias_row;
 use crate::pairs::Line;
@@ -10,9 +10,9 @@ use crate::pairs::likely_row;
 use crate::pairs::parent_row;
 ghost use mathlib.Core.Path.{_≡_};
 ghost use mathlib.Core.Option.{none};
-ghost use Rattle.standard.specs.Table.{rows, rowsFault};
+ghost use Rattle.standard.specs.Table.{rows, rowsFault, shapeOf};
 ghost use Rattle.table.specs.Search.{below};
-ghost use Rattle.row_shapes.specs.Rows.{LineAt, shapeOf, faultIs};
+ghost use Rattle.row_shapes.specs.Rows.{LineAt, kindIs, faultIs};
 
 // The three tables.
 pub enum Table {
@@ -53,7 +53,7 @@ pub enum Rows {
 
 // The first row of wrong shape, or not above the one before. The key of the row before is t[p..k].
 pub fn check_rows(t: &[u8], table: Table) -> Rows
-    ensures { λ r. ⌜ faultIs r ≡ rowsFault (shapeOf table) none 0 (rows (now (t .entry))) ⌝ }
+    ensures { λ r. ⌜ faultIs r ≡ rowsFault (shapeOf (kindIs table)) none 0 (rows (now (t .entry))) ⌝ }
 {
     let n = t.len();
     let mut i = 0;

@@ -1,6 +1,6 @@
 // The rows of the likely and the parent table: a key, a tab and a value.
 use crate::Table;
-use crate::three::front_of;
+use crate::lsr::front_of;
 ghost use mathlib.Core.Path.{_≡_};
 ghost use mathlib.Core.Bool.{false};
 ghost use Prim.Native.Nat.{_+_, _≤_, _<_};
@@ -78,7 +78,7 @@ pub struct Line {
     pub end: usize,
 }
 
-pub fn no_line() -> Line
+pub(crate) fn no_line() -> Line
     ensures { λ r. ⌜ r .ok ≡ false ⌝ }
 {
     Line {
@@ -111,7 +111,7 @@ fn known_parts(s: &[u8], l: usize, e: usize) -> bool
 }
 
 // A likely row: key and value, in which nothing is unknown.
-pub fn likely_row(s: &[u8]) -> Line
+pub(crate) fn likely_row(s: &[u8]) -> Line
     ensures { λ r. ⌜ LineAt Table.Likely (now (s .entry)) r ⌝ }
 {
     let t = pair_of(s);
@@ -128,7 +128,7 @@ pub fn likely_row(s: &[u8]) -> Line
 }
 
 // A parent row: a key other than `und` alone, and a value.
-pub fn parent_row(s: &[u8]) -> Line
+pub(crate) fn parent_row(s: &[u8]) -> Line
     ensures { λ r. ⌜ LineAt Table.Parents (now (s .entry)) r ⌝ }
 {
     let t = pair_of(s);

@@ -48,7 +48,7 @@ fn every(s: &[u8], from: usize, k: Bytes) -> bool
 }
 
 // 2, 3 or 5 to 8 small letters.
-pub fn is_language(s: &[u8]) -> bool
+pub(crate) fn is_language(s: &[u8]) -> bool
     ensures { λ r. ⌜ r ≡ isLanguage (now (s .entry)) ⌝ }
 {
     let n = s.len();
@@ -65,7 +65,7 @@ pub fn is_language(s: &[u8]) -> bool
 }
 
 // 4 letters, the first a capital.
-pub fn is_script(s: &[u8]) -> bool
+pub(crate) fn is_script(s: &[u8]) -> bool
     ensures { λ r. ⌜ r ≡ isScript (now (s .entry)) ⌝ }
 {
     if s.len() != 4 {
@@ -78,7 +78,7 @@ pub fn is_script(s: &[u8]) -> bool
 }
 
 // 2 capitals or 3 digits.
-pub fn is_region(s: &[u8]) -> bool
+pub(crate) fn is_region(s: &[u8]) -> bool
     ensures { λ r. ⌜ r ≡ isRegion (now (s .entry)) ⌝ }
 {
     let n = s.len();
@@ -92,7 +92,7 @@ pub fn is_region(s: &[u8]) -> bool
 }
 
 // 5 to 8 small letters or digits, or 4 of which the first is a digit.
-pub fn is_variant(s: &[u8]) -> bool
+pub(crate) fn is_variant(s: &[u8]) -> bool
     ensures { λ r. ⌜ r ≡ isVariantTag (now (s .entry)) ⌝ }
 {
     let n = s.len();
@@ -112,7 +112,7 @@ pub fn is_variant(s: &[u8]) -> bool
 }
 
 // How many bytes from `from` on are of the kind, up to the first of another.
-pub fn run_of(s: &[u8], from: usize, k: Bytes) -> usize
+pub(crate) fn run_of(s: &[u8], from: usize, k: Bytes) -> usize
     ensures { λ r. ⌜ r ≡ run (allowed k) (drop from (now (s .entry))) ⌝ }
 {
     let mut i = from;

@@ -12,7 +12,9 @@ pub mod Faults
 pub mod Round
 pub mod Arranged
 pub mod Sound
+pub mod Seven
 pub mod Closed
+pub mod Checks
 pub mod Numbers
 pub mod Demand
 pub mod Lines
@@ -24,3 +26,4 @@ pub mod Whole
 pub mod Bounds
 pub mod Dashes
 pub mod Long
+pub mod General

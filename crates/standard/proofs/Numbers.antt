@@ -1,6 +1,6 @@
 -- The numbers of refusals: reading's are 1 to 7, the tables' 11 to 14, and no refusal has a result's numbers, 0 and 10.
 -- So an answer is 0 or 10 exactly where there is a result. Assumes nothing.
-use mathlib.Core.Path.{_≡_, refl}
+use mathlib.Core.Path.{_≡_, refl, subst}
 use mathlib.Core.Bool.{Bool, true, false, cond, _&&_}
 use mathlib.Core.Logic.{_↔_, _⊎_, inl, inr}
 use mathlib.Core.List.{List, [], _∷_}
@@ -9,16 +9,15 @@ use Prim.Native.Nat.{ℕ, suc, _+_, _≤_, _<_}
 use native.Mathlib.Omega.{arith}
 use lib.Dec.{leb}
 use lib.ListN.{length}
-use Rattle.standard.specs.Tag.{Tag, same, headTag}
+use Rattle.standard.specs.Tag.{Tag, same, headTag, All}
 use Rattle.standard.specs.Grammar.{grouped, uTag, tTag, isSingleton, isFieldKey, kindOf, isVariant}
-use Rattle.standard.specs.Identifier.{Identifier, Tables, Answer, done, refused, bounded, size, filled, then, canonical, maximised, minimised, withThree, Three, parts}
+use Rattle.standard.specs.Identifier.{Identifier, Tables, Answer, done, refused, bounded, printedLength, filled, then, canonical, maximised, minimised, withThree, Three, parts}
 use Rattle.standard.specs.Reading.{Fault, firstOf, noBytes, tooLong, clean, unclean, badTag, wrongSize, member, Stage, accept, restFault, start, languageOnly, partFault, alone, groupsFault, wrongKeyword, wrongValue, fieldFault, fieldsFault, extensionFault, privateFault, isX, upTo, from, noLanguage, grammarFault, faultOf, split, Read, good, bad, readAs, read, identifierOf}
 use Rattle.standard.specs.Delivery.{Bytes, Made, result, refusal, given}
 use Rattle.standard.specs.Calls.{Operation, canonicalise, maximise, minimise}
-use Rattle.standard.specs.Table.{TableFault, rowsFault, clashFault, tooBig, inTable, sizeFault, shapeFault, freeFault, check, inUse, pieces, keyOf, above}
+use Rattle.standard.specs.Table.{TableFault, rowsFault, clashFault, tooBig, inTable, sizeFault, shapeFault, freeFault, check, Use, inUse, pieces, rowKey, above, toCanonicalise, toMaximise, toChain}
 use Rattle.standard.specs.Demand3.{ZeroOrTen}
-use Rattle.standard.proofs.Tags.{All}
-use Rattle.standard.proofs.Table.{tested-have}
+use Rattle.standard.proofs.Checks.{tested-have}
 use Rattle.standard.specs.Make.{operate, made, makeOf, make, listed, chainMade, chainFrom, afterCheck, canonicaliseMade, maximiseMade, minimiseMade, listMade, whole}
 
 pub refusal-not : {n p t s : ℕ} {r : Bytes} {P : Type 0} → refusal n p t ≡ result r s → P
@@ -148,10 +147,10 @@ rows-within shape last at (l ∷ []) = go l
     go : (l : Tag) → Within 11 14 (elim l [ [] ↦ none | _∷_ b bs ↦ some (record { number = 12; place = at }) ])
     go [] = tt
     go (b ∷ bs) = (omega arith, omega arith)
-rows-within shape last at (l ∷ m ∷ ls) = go (shape (pieces 9 l)) (above last (keyOf (pieces 9 l))) (rows-within shape (some (keyOf (pieces 9 l))) (at + suc (length l)) (m ∷ ls))
+rows-within shape last at (l ∷ m ∷ ls) = go (shape (pieces 9 l)) (above last (rowKey (pieces 9 l))) (rows-within shape (some (rowKey (pieces 9 l))) (at + suc (length l)) (m ∷ ls))
   where
-    go : (a b : Bool) → Within 11 14 (rowsFault shape (some (keyOf (pieces 9 l))) (at + suc (length l)) (m ∷ ls))
-        → Within 11 14 (elim a [ false ↦ some (record { number = 12; place = at }) | true ↦ elim b [ false ↦ some (record { number = 13; place = at }) | true ↦ rowsFault shape (some (keyOf (pieces 9 l))) (at + suc (length l)) (m ∷ ls) ] ])
+    go : (a b : Bool) → Within 11 14 (rowsFault shape (some (rowKey (pieces 9 l))) (at + suc (length l)) (m ∷ ls))
+        → Within 11 14 (elim a [ false ↦ some (record { number = 12; place = at }) | true ↦ elim b [ false ↦ some (record { number = 13; place = at }) | true ↦ rowsFault shape (some (rowKey (pieces 9 l))) (at + suc (length l)) (m ∷ ls) ] ])
     go false b next = (omega arith, omega arith)
     go true false next = (omega arith, omega arith)
     go true true next = next
@@ -184,11 +183,11 @@ unfolding inTable Within TableWithin
 in-within n none h = tt
 in-within n (some f) h = h
 
-pub check-within : (useL useP : Bool) (A L P : Bytes) → TableWithin (check useL useP A L P)
+pub check-within : (purpose : Use) (A L P : Bytes) → TableWithin (check purpose A L P)
 unfolding check All sizeFault shapeFault freeFault TableWithin
-check-within u w A L P =
+check-within u A L P =
     tested-have TableWithin tt _
-    ((λ t. in-within _ _ (big-within (t .lent))), ((λ t. in-within _ _ (rows-within _ none 0 _)), ((λ t. in-within _ _ (clash-within _ 0 _)), tt))) (inUse u w A L P)
+    ((λ t. in-within _ _ (big-within (t .lent))), ((λ t. in-within _ _ (rows-within _ none 0 _)), ((λ t. in-within _ _ (clash-within _ 0 _)), tt))) (inUse u A L P)
 
 -- A refusal's number is neither 0 nor 10.
 unfoldable pub Proper : Made → Type 0
@@ -206,7 +205,7 @@ ProperAnswer (refused n) = (0 < n) × (n < 10)
 
 bounded-proper : (i : Identifier) → ProperAnswer (bounded i)
 unfolding bounded ProperAnswer
-bounded-proper i = go (leb (size i) 255)
+bounded-proper i = go (leb (printedLength i) 255)
   where
     go : (b : Bool) → ProperAnswer (cond b (done i) (refused 9))
     go true = tt
@@ -269,13 +268,18 @@ chain-proper T x = go (read x) refl
 
 pub whole-proper : (A L P : Bytes) (o : Operation) (x : Bytes) → Proper (whole A L P o x)
 unfolding whole canonicaliseMade maximiseMade minimiseMade
-whole-proper A L P canonicalise x = after-proper _ _ (check-within false false A [] []) (make-proper _ canonicalise x)
-whole-proper A L P maximise x = after-proper _ _ (check-within true false A L []) (make-proper _ maximise x)
-whole-proper A L P minimise x = after-proper _ _ (check-within true false A L []) (make-proper _ minimise x)
+whole-proper A L P canonicalise x = after-proper _ _ (check-within toCanonicalise A [] []) (make-proper _ canonicalise x)
+whole-proper A L P maximise x = after-proper _ _ (check-within toMaximise A L []) (make-proper _ maximise x)
+whole-proper A L P minimise x = after-proper _ _ (check-within toMaximise A L []) (make-proper _ minimise x)
+
+-- so a refusal's number is not 0
+pub whole-numbered : (A L P : Bytes) (o : Operation) (x : Bytes) (n p t : ℕ) → whole A L P o x ≡ refusal n p t → 0 < n
+unfolding Proper
+whole-numbered A L P o x n p t e = subst Proper e (whole-proper A L P o x) .0
 
 pub list-proper : (A P : Bytes) (x : Bytes) → Proper (listMade A P x)
 unfolding listMade
-list-proper A P x = after-proper _ _ (check-within false true A [] P) (chain-proper _ x)
+list-proper A P x = after-proper _ _ (check-within toChain A [] P) (chain-proper _ x)
 
 -- 01, The words of demand 3: an operation answers 0 or 10 where there is a result, whatever the output lent.
 pub record Made-of (m : Made) : Type 0 where

@@ -8,27 +8,29 @@ use mathlib.Core.Option.{Option, none, some, Option·none-ne-some, Option·some-
 use Prim.Native.Nat.{ℕ, suc, _+_}
 use lib.Dec.{eqb, eqb→eq, eqb-refl}
 use lib.ListN.{length}
-use Rattle.standard.specs.Tag.{Tag, order, same, present, replace, onto}
+use Rattle.standard.specs.Tag.{Tag, order, same, present, replace, onto, All}
 use Rattle.standard.specs.Grammar.{title, upper, Kind, aScript, aRegion, aVariant, kindOf, isLanguage, languageSize, sizeOf}
-use Rattle.standard.specs.Identifier.{Three, und, Tables, withoutUnknown, complete, sameThree, Kept, Good}
-use Rattle.standard.specs.Reading.{optional, joined, Fault, ofKind}
-use Rattle.standard.specs.Chain.{line, parentOf, parent, isUndAlone, reaches, GoodParents}
-use Rattle.standard.specs.Table.{pieces, after, lookup, rows, lower, inCanonicalCase, findInCase, threeOf, parse, printThree, isThree, languageKey, scriptKey, regionKey, variantKey, parsed, tablesOf, isWord, languageIsUnd, isVariantTag, aliasShape, likelyShape, parentShape, isNone, unaliased, aliasFree, likelyFree, parentFree, keyOf, above, rowsFault, clashFault, TableFault, inTable, firstTable, shapeOf, freeOf, Used, used, ifUsed, inUse, each, tested, sizeFault, shapeFault, freeFault, check}
-use Rattle.standard.proofs.Tags.{All, same-eq}
+use Rattle.standard.specs.Identifier.{Three, und, Tables, withoutUnknown, complete, sameThree, Kept, Lawful}
+use Rattle.standard.specs.Reading.{optional, joined, ofKind}
+use Rattle.standard.specs.Chain.{line, parentOf, parent, isUndAlone, reaches, LawfulParents}
+use Rattle.standard.specs.Table.{pieces, after, lookup, rows, lower, inCanonicalCase, findInCase, threeOf, parse, printThree, isThree, languageKey, scriptKey, regionKey, variantKey, parsed, tablesOf, isWord, languageIsUnd, isVariantTag, aliasShape, likelyShape, parentShape, isNone, unaliased, aliasFree, likelyFree, parentFree, rowKey, above, rowsFault, clashFault, shapeOf, freeOf, inUse, shapeFault, freeFault, check, toCheck, Pass}
+use Rattle.standard.proofs.Tags.{same-eq}
+use Rattle.standard.proofs.Checks.{inTable-none, Clear, AllClear, tested-none}
 use Rattle.standard.proofs.Core.{sameThree-eq}
-use Rattle.standard.proofs.Bytes.{clash, bool-cases, and-true, true→T, T→true, word}
+use Rattle.standard.proofs.General.{bool-cases, and-true, true→T, T→true, no}
+use Rattle.standard.proofs.Bytes.{word}
 use Rattle.standard.proofs.Faults.{Maybe}
 use Rattle.standard.proofs.Round.{Shown, Shaped}
 use Rattle.standard.proofs.Sound.{ofKind-eq, shown-none}
 use Rattle.standard.proofs.Closed.{ShapedTables}
 
 -- Pieces.
-record Some (s : ℕ) (x : List ℕ) : Type 0 where
-  first : Tag
-  more : List Tag
-  are : pieces s x ≡ first ∷ more
+pub record Some (s : ℕ) (x : List ℕ) : Type 0 where
+  pub first : Tag
+  pub more : List Tag
+  pub are : pieces s x ≡ first ∷ more
 
-pieces-some : (s : ℕ) (x : List ℕ) → Some s x
+pub pieces-some : (s : ℕ) (x : List ℕ) → Some s x
 unfolding pieces onto
 pieces-some s [] = record { first = []; more = []; are = refl }
 pieces-some s (b ∷ bs) = go (eqb b s) refl (pieces-some s bs)
@@ -79,7 +81,7 @@ two-fields s k v b c e = go (pieces-some s k) (pieces-some s v)
         fit p q (p .more) refl (head-eq-of-cons-eq r, tail-eq-of-cons-eq r)
 
 -- Lookup.
-after-eq : (p x v : List ℕ) → after p x ≡ some v → x ≡ p ++ v
+pub after-eq : (p x v : List ℕ) → after p x ≡ some v → x ≡ p ++ v
 unfolding after
 after-eq [] x v e = cc
 after-eq (p ∷ ps) [] v e = absurd (Option·none-ne-some v e)
@@ -89,19 +91,13 @@ after-eq (p ∷ ps) (x ∷ xs) v e = go (eqb p x) refl (after-eq ps xs v)
     go true f next = let q : p ≡ x = eqb→eq p x (true→T (eqb p x) f) in rw (q, next (rw (f, after) at e))
     go false f next = absurd (Option·none-ne-some v (rw (f, after) at e))
 
-no-empty-row : (k : List ℕ) → lookup ([] ∷ []) k ≡ none
+pub no-empty-row : (k : List ℕ) → lookup ([] ∷ []) k ≡ none
 unfolding lookup after
 no-empty-row [] = refl
 no-empty-row (b ∷ bs) = refl
 
--- every line but the last, which is empty, passes a test
-unfoldable pub Pass : (List Tag → Bool) → List Tag → Type 0
-Pass test [] = Unit {0}
-Pass test (l ∷ []) = l ≡ []
-Pass test (l ∷ m ∷ ls) = (test (pieces 9 l) ≡ true) × Pass test (m ∷ ls)
-
 -- what a test says of a row that was found
-row-test : (test : List Tag → Bool) (ls : List Tag) (k v : List ℕ) → Pass test ls → lookup ls k ≡ some v → test (pieces 9 (k ++ (9 ∷ v))) ≡ true
+pub row-test : (test : List Tag → Bool) (ls : List Tag) (k v : List ℕ) → Pass test ls → lookup ls k ≡ some v → test (pieces 9 (k ++ (9 ∷ v))) ≡ true
 unfolding Pass lookup
 row-test test [] k v e f = absurd (Option·none-ne-some v f)
 row-test test (l ∷ []) k v e f = absurd (Option·none-ne-some v (sym (no-empty-row k) ∙ (rw e at f)))
@@ -116,15 +112,15 @@ row-test test (l ∷ m ∷ ls) k v e f = go (after (k ++ (9 ∷ [])) l) refl (ro
         let d : w ≡ v = cc in
         subst (λ (x : List ℕ). test (pieces 9 x) ≡ true) (a ∙ (append-assoc k (9 ∷ []) w ∙ ap (λ (x : List ℕ). k ++ (9 ∷ x)) d)) (e .0)
 
-rows-pass : (shape : List Tag → Bool) (last : Option (List ℕ)) (at : ℕ) (ls : List Tag) → rowsFault shape last at ls ≡ none → Pass shape ls
+pub rows-pass : (shape : List Tag → Bool) (last : Option (List ℕ)) (at : ℕ) (ls : List Tag) → rowsFault shape last at ls ≡ none → Pass shape ls
 unfolding rowsFault Pass
 rows-pass shape last at [] e = tt
 rows-pass shape last at ([] ∷ []) e = refl
 rows-pass shape last at ((b ∷ bs) ∷ []) e = absurd (Option·some-ne-none _ e)
-rows-pass shape last at (l ∷ m ∷ ls) e = go (shape (pieces 9 l)) refl (above last (keyOf (pieces 9 l))) refl (rows-pass shape (some (keyOf (pieces 9 l))) (at + suc (length l)) (m ∷ ls))
+rows-pass shape last at (l ∷ m ∷ ls) e = go (shape (pieces 9 l)) refl (above last (rowKey (pieces 9 l))) refl (rows-pass shape (some (rowKey (pieces 9 l))) (at + suc (length l)) (m ∷ ls))
   where
-    go : (b : Bool) → shape (pieces 9 l) ≡ b → (c : Bool) → above last (keyOf (pieces 9 l)) ≡ c
-        → (rowsFault shape (some (keyOf (pieces 9 l))) (at + suc (length l)) (m ∷ ls) ≡ none → Pass shape (m ∷ ls)) → (shape (pieces 9 l) ≡ true) × Pass shape (m ∷ ls)
+    go : (b : Bool) → shape (pieces 9 l) ≡ b → (c : Bool) → above last (rowKey (pieces 9 l)) ≡ c
+        → (rowsFault shape (some (rowKey (pieces 9 l))) (at + suc (length l)) (m ∷ ls) ≡ none → Pass shape (m ∷ ls)) → (shape (pieces 9 l) ≡ true) × Pass shape (m ∷ ls)
     go false f c g next = absurd (Option·some-ne-none _ (rw (f, rowsFault) at e))
     go true f false g next = absurd (Option·some-ne-none _ (rw (f, g, rowsFault) at e))
     go true f true g next = (f, next (rw (f, g, rowsFault) at e))
@@ -148,78 +144,10 @@ pub record Passed (A L P : List ℕ) : Type 0 where
   pub likely-free : Pass (likelyFree (tablesOf A L P)) (rows L)
   pub parent-free : Pass (parentFree (tablesOf A L P)) (rows P)
 
-pub firstTable-none : (a b : Option TableFault) → firstTable a b ≡ none → (a ≡ none) × (b ≡ none)
-unfolding firstTable
-firstTable-none none b e = (refl, e)
-firstTable-none (some f) b e = absurd (Option·some-ne-none f e)
-
-pub inTable-none : (n : ℕ) (o : Option Fault) → inTable n o ≡ none → o ≡ none
-unfolding inTable
-inTable-none n none e = refl
-inTable-none n (some f) e = absurd (Option·some-ne-none _ e)
-
-pub firstTable-both : (a b : Option TableFault) → a ≡ none → b ≡ none → firstTable a b ≡ none
-unfolding firstTable
-firstTable-both a b e f = rw (e, f)
-
--- Tests over tables: none finds a fault exactly if no test finds one in any table.
-module _ {X : Type 0} where
-  unfoldable pub Clear : (Used X → Option TableFault) → Used X → Type 0
-  Clear test u = test u ≡ none
-
-  pub each-none : (test : Used X → Option TableFault) (us : List (Used X)) → each test us ≡ none → All (Clear test) us
-  unfolding each All Clear
-  each-none test [] e = tt
-  each-none test (u ∷ us) e = let h = firstTable-none (test u) (each test us) e in (h .0, each-none test us (h .1))
-
-  pub each-clear : (test : Used X → Option TableFault) (us : List (Used X)) → All (Clear test) us → each test us ≡ none
-  unfolding each All Clear
-  each-clear test [] h = refl
-  each-clear test (u ∷ us) h = firstTable-both (test u) (each test us) (h .0) (each-clear test us (h .1))
-
-  unfoldable pub AllClear : List (Used X) → (Used X → Option TableFault) → Type 0
-  AllClear us test = All (Clear test) us
-
-  pub tested-none : (ts : List (Used X → Option TableFault)) (us : List (Used X)) → tested ts us ≡ none → All (AllClear us) ts
-  unfolding tested All AllClear
-  tested-none [] us e = tt
-  tested-none (t ∷ ts) us e = let h = firstTable-none (each t us) (tested ts us) e in (each-none t us (h .0), tested-none ts us (h .1))
-
-  pub tested-clear : (ts : List (Used X → Option TableFault)) (us : List (Used X)) → All (AllClear us) ts → tested ts us ≡ none
-  unfolding tested All AllClear
-  tested-clear [] us h = refl
-  tested-clear (t ∷ ts) us h = firstTable-both (each t us) (tested ts us) (each-clear t us (h .0)) (tested-clear ts us (h .1))
-
-  -- what all tests give, they give together
-  pub tested-have : (Q : Option TableFault → Type 0) → Q none → (ts : List (Used X → Option TableFault)) → All (λ (t : Used X → Option TableFault). (u : Used X) → Q (t u)) ts → (us : List (Used X)) → Q (tested ts us)
-  unfolding tested each All firstTable
-  tested-have Q q [] h us = q
-  tested-have Q q (t ∷ ts) h us = go (each t us) (one us) (tested-have Q q ts (h .1) us)
-    where
-      go : (o : Option TableFault) → Q o → Q (tested ts us) → Q (firstTable o (tested ts us))
-      go none a b = b
-      go (some f) a b = a
-
-      join : (o p : Option TableFault) → Q o → Q p → Q (firstTable o p)
-      join none p a b = b
-      join (some f) p a b = a
-
-      one : (vs : List (Used X)) → Q (each t vs)
-      one [] = q
-      one (v ∷ vs) = join (t v) (each t vs) (h .0 v) (one vs)
-
-  -- what holds of all three tables holds of those that are used
-  pub inUse-less : (Q : Used X → Type 0) (useL useP : Bool) (A L P : X) → All Q (inUse true true A L P) → All Q (inUse useL useP A L P)
-  unfolding inUse ifUsed All
-  inUse-less Q true true A L P h = h
-  inUse-less Q true false A L P h = (h .0, (h .1 .0, tt))
-  inUse-less Q false true A L P h = (h .0, (h .1 .1 .0, tt))
-  inUse-less Q false false A L P h = (h .0, tt)
-
-pub passed : (A L P : List ℕ) → check true true A L P ≡ none → Passed A L P
-unfolding check inUse ifUsed All AllClear Clear shapeFault freeFault shapeOf freeOf
+pub passed : (A L P : List ℕ) → check toCheck A L P ≡ none → Passed A L P
+unfolding check inUse All AllClear Clear shapeFault freeFault shapeOf freeOf
 passed A L P e =
-    let h = tested-none _ (inUse true true A L P) e in
+    let h = tested-none _ (inUse toCheck A L P) e in
     let a = rows-pass aliasShape none 0 (rows A) (inTable-none _ _ (h .1 .0 .0)) in
     let l = rows-pass likelyShape none 0 (rows L) (inTable-none _ _ (h .1 .0 .1 .0)) in
     let p = rows-pass parentShape none 0 (rows P) (inTable-none _ _ (h .1 .0 .1 .1 .0)) in
@@ -231,14 +159,6 @@ passed A L P e =
       likely-free = clash-pass likelyShape (likelyFree (tablesOf A L P)) 0 (rows L) l (inTable-none _ _ (h .1 .1 .0 .1 .0));
       parent-free = clash-pass parentShape (parentFree (tablesOf A L P)) 0 (rows P) p (inTable-none _ _ (h .1 .1 .0 .1 .1 .0));
     }
-
--- a check of some of the tables passes where the check of all does
-pub check-less : (useL useP : Bool) (A L P : List ℕ) → check true true A L P ≡ none → check useL useP A L P ≡ none
-unfolding check All AllClear
-check-less u w A L P e =
-    let h = tested-none _ (inUse true true A L P) e in
-    tested-clear _ (inUse u w A L P)
-    (inUse-less (Clear sizeFault) u w A L P (h .0), (inUse-less (Clear shapeFault) u w A L P (h .1 .0), (inUse-less (Clear (freeFault (tablesOf A L P))) u w A L P (h .1 .1 .0), tt)))
 
 -- a test that asks for two fields, or two more
 record Two (ts : List Tag) : Type 0 where
@@ -262,9 +182,6 @@ row-kind test strict name K k v q e =
     let e′ : test (name ∷ (pieces 9 k ++ pieces 9 v)) ≡ true = subst (λ (x : List Tag). test x ≡ true) (pieces-append 9 (K ++ k) v ∙ ap (λ (x : List Tag). x ++ pieces 9 v) q) e in
     let t = strict name (pieces 9 k ++ pieces 9 v) e′ in
     fields-are (λ (ts : List Tag). test (name ∷ ts)) k v (t .key) (t .value) (t .are) e′
-
-no : {P : Type 0} → false ≡ true → P
-no e = clash {b = true} refl (sym e)
 
 alias-strict : (a : Tag) (ts : List Tag) → aliasShape (a ∷ ts) ≡ true → Two ts
 unfolding aliasShape
@@ -461,7 +378,7 @@ module _ (A L P : List ℕ) (p : Passed A L P) where
       let i = and-true (isThree v) (complete (parse v) && sameThree (withoutUnknown (parse v)) (parse v)) (h .1) in
       (i .0, (and-true (complete (parse v)) (sameThree (withoutUnknown (parse v)) (parse v)) (i .1)) .0)
 
-  pub good-tables : Good U
+  pub good-tables : Lawful U
   unfolding tablesOf
   good-tables = record {
     languages = λ k w e. let s = parsed-some (lookup (rows A) (languageKey ++ k)) w e in subst (λ (x : Three). U .languages (x .language) ≡ none) (s .2) (free-language U k (s .0) ((language-row k (s .0) (s .1)) .1));
@@ -553,7 +470,7 @@ module _ (A L P : List ℕ) (p : Passed A L P) where
       let shape = row-two parentShape parent-strict k v (row-test parentShape (rows P) k v (p .parent-shapes) f) in
       (and-true (not (same k und)) (isThree v) ((and-true (isThree k) (not (same k und) && isThree v) shape) .1)) .1
 
-  pub good-parents : GoodParents U
+  pub good-parents : LawfulParents U
   good-parents = record { within = λ k v e. (parents-row k v e) .within }
 
   pub parents-shaped : (k v : Three) → U .parents k ≡ some v → Shaped v

@@ -7,10 +7,10 @@ use native.Mathlib.Omega.{arith}
 use lib.Dec.{leb}
 use borrow.Author.Tests.{le-leb, lt-leb, leb-true, ne-eqb}
 use Rattle.standard.specs.Grammar.{small, capital, digit, separator, lowerByte, upperByte}
-use Rattle.standard.proofs.Bytes.{bool-cases, and-true}
+use Rattle.standard.proofs.General.{bool-cases, and-true}
 use Rattle.subtag.specs.declared.Class.{Class}
 use Rattle.subtag.specs.declared.Class.the-variants.{Small, Capital, Digit, Separator, Other}
-use Rattle.subtag.specs.Bytes.{classOf, isSmall, isCapital, isDigit, isSeparator, tidyByte}
+use Rattle.subtag.specs.Bytes.{classOf, isSmall, isCapital, isDigit, isSeparator, normalByte}
 
 -- a range test from the order facts of its byte
 pub inside : (lo hi b : ℕ) → lo ≤ b → b ≤ hi → (leb lo b && leb b hi) ≡ true
@@ -119,10 +119,10 @@ capital-high b e f = (capital-in b (classed b .capital ∙ ap isCapital (sym e �
 pub small-low : (b : ℕ) {k : Class} → k ≡ classOf b → k ≡ Small → 97 ≤ b
 small-low b e f = (small-in b (classed b .small ∙ ap isSmall (sym e ∙ f))) .low
 
-pub tidy-sep : (b : ℕ) → separator b ≡ true → tidyByte b ≡ 45
-unfolding tidyByte
-tidy-sep b e = rw e
+pub normalise-sep : (b : ℕ) → separator b ≡ true → normalByte b ≡ 45
+unfolding normalByte
+normalise-sep b e = rw e
 
-pub tidy-other : (b : ℕ) → separator b ≡ false → tidyByte b ≡ lowerByte b
-unfolding tidyByte
-tidy-other b e = rw e
+pub normalise-other : (b : ℕ) → separator b ≡ false → normalByte b ≡ lowerByte b
+unfolding normalByte
+normalise-other b e = rw e

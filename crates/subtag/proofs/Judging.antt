@@ -1,4 +1,4 @@
--- The loop of the judge: counts, number and length of the bytes passed, and what is still to come.
+-- The loop of the scan: counts, number and length of the bytes passed, and what is still to come.
 -- Assumes nothing.
 use mathlib.Core.Path.{_≡_, refl, sym, ap, ap₂, _∙_}
 use mathlib.Core.Bool.{Bool, true, false, cond}

@@ -9,16 +9,15 @@ use native.Mathlib.Nat.{mul-le-mul-right, suc-mul, one-le-pow}
 use native.Mathlib.Omega.{arith}
 use lib.Dec.{eqb, isEq}
 use lib.ListN.{length}
-use Rattle.standard.specs.Tag.{Tag, andThen, order, same, onto}
+use Rattle.standard.specs.Tag.{Tag, andThen, order, same, onto, All}
 use Rattle.standard.specs.Grammar.{separator, lowerByte, small, digit, every}
 use Rattle.standard.specs.Reading.{clean, unclean, split}
-use Rattle.standard.proofs.Tags.{All}
-use Rattle.standard.proofs.Bytes.{bool-cases, word, lower-word}
+use Rattle.standard.proofs.General.{bool-cases, compare-lt, compare-gt, compare-same, compare-less, compare-more, compare-equal}
+use Rattle.standard.proofs.Bytes.{word, lower-word}
 use Rattle.standard.proofs.Shapes.{Word}
 use Rattle.subtag.specs.Subtags.{packed, keyOf, PlainBytes, PlainTag}
 use Rattle.subtag.proofs.Bytes.{small-in, digit-in}
 use Rattle.subtag.proofs.Walk.{split-sep, split-byte}
-use Rattle.byte_string.proofs.Orders.{compare-lt, compare-gt, compare-same, compare-less, compare-more, compare-equal}
 
 -- a number of one digit more, by its highest digit
 less-digit : (x y P p q : ℕ) → x < y → p < P → x * P + p < y * P + q

@@ -11,17 +11,17 @@ use lib.Seq.{sets, take-suc, take-all, length-take-le}
 use borrow.Author.Tests.{lt-ltb, le-ltb, ltb-true, ltb-false}
 use Rattle.standard.specs.Tag.{Tag}
 use Rattle.standard.specs.Grammar.{upperByte, title, upper}
-use Rattle.subtag.specs.Bytes.{raised, raisedByte}
+use Rattle.subtag.specs.Bytes.{cased, casedByte}
 use Rattle.byte_string.proofs.Stores.{sets-append, map-append}
 
-pub raised-length : (n : ℕ) (t : Tag) → length (raised n t) ≡ length t
-unfolding raised
+pub raised-length : (n : ℕ) (t : Tag) → length (cased n t) ≡ length t
+unfolding cased
 raised-length zero t = refl
 raised-length (suc n) [] = refl
 raised-length (suc n) (b ∷ bs) = ap suc (raised-length n bs)
 
-pub raised-nil : (n : ℕ) → raised n [] ≡ []
-unfolding raised
+pub raised-nil : (n : ℕ) → cased n [] ≡ []
+unfolding cased
 raised-nil zero = refl
 raised-nil (suc n) = refl
 
@@ -32,48 +32,48 @@ shift i n = go (ltb i n) refl
     go true e = sym (lt-ltb (suc i) (suc n) (omega (arith, ltb-true i n e)))
     go false e = sym (le-ltb (suc i) (suc n) (omega (arith, ltb-false i n e)))
 
-raised-more : (n : ℕ) (x : List ℕ) (b : ℕ) → raised n (x ++ (b ∷ [])) ≡ raised n x ++ (raisedByte (length x) n b ∷ [])
-unfolding raised raisedByte
+raised-more : (n : ℕ) (x : List ℕ) (b : ℕ) → cased n (x ++ (b ∷ [])) ≡ cased n x ++ (casedByte (length x) n b ∷ [])
+unfolding cased casedByte
 raised-more zero x b = ap (λ (c : Bool). x ++ (cond c (upperByte b) b ∷ [])) (sym (le-ltb (length x) 0 (omega arith)))
 raised-more (suc n) [] b = ap (_∷_ (upperByte b)) (raised-nil n) ∙ ap (λ (c : Bool). cond c (upperByte b) b ∷ []) (sym (lt-ltb 0 (suc n) (omega arith)))
 raised-more (suc n) (a ∷ x) b =
-    ap (_∷_ (upperByte a)) (raised-more n x b) ∙ ap (λ (c : Bool). upperByte a ∷ (raised n x ++ (cond c (upperByte b) b ∷ []))) (shift (length x) n)
+    ap (_∷_ (upperByte a)) (raised-more n x b) ∙ ap (λ (c : Bool). upperByte a ∷ (cased n x ++ (cond c (upperByte b) b ∷ []))) (shift (length x) n)
 
 -- one byte more, in its case
-pub raised-next : (f : ℕ → ℕ) (n : ℕ) (l o : List ℕ) (at : ℕ) (x : List ℕ) (i b : ℕ) → o ≡ sets l at (raised n (map f (take i x))) → b ≡ raisedByte i n (f (getD x i 0)) → i < length x
-    → set o (at + i) b ≡ sets l at (raised n (map f (take (i + 1) x)))
+pub raised-next : (f : ℕ → ℕ) (n : ℕ) (l o : List ℕ) (at : ℕ) (x : List ℕ) (i b : ℕ) → o ≡ sets l at (cased n (map f (take i x))) → b ≡ casedByte i n (f (getD x i 0)) → i < length x
+    → set o (at + i) b ≡ sets l at (cased n (map f (take (i + 1) x)))
 raised-next f n l o at x i b e d h =
     let t = map f (take i x) in
     let z : length t ≡ i = length-map (take i x) f ∙ length-take-le i x (omega arith) in
-    let y : length (raised n t) ≡ i = raised-length n t ∙ z in
-    let m : raised n (map f (take (i + 1) x)) ≡ raised n t ++ (raisedByte i n (f (getD x i 0)) ∷ []) =
-    ap (raised n) (rw (add-one, take-suc x i 0) (map-append f (take i x) (getD x i 0 ∷ []))) ∙ raised-more n t (f (getD x i 0)) ∙ ap (λ (k : ℕ). raised n t ++ (raisedByte k n (f (getD x i 0)) ∷ [])) z in
+    let y : length (cased n t) ≡ i = raised-length n t ∙ z in
+    let m : cased n (map f (take (i + 1) x)) ≡ cased n t ++ (casedByte i n (f (getD x i 0)) ∷ []) =
+    ap (cased n) (rw (add-one, take-suc x i 0) (map-append f (take i x) (getD x i 0 ∷ []))) ∙ raised-more n t (f (getD x i 0)) ∙ ap (λ (k : ℕ). cased n t ++ (casedByte k n (f (getD x i 0)) ∷ [])) z in
     ap₂ (λ (q : List ℕ) (c : ℕ). set q (at + i) c) e d
-    ∙ sym (ap (sets l at) m ∙ sets-append l at (raised n t) (raisedByte i n (f (getD x i 0)) ∷ []) ∙ ap (λ (k : ℕ). set (sets l at (raised n t)) (at + k) (raisedByte i n (f (getD x i 0)))) y)
+    ∙ sym (ap (sets l at) m ∙ sets-append l at (cased n t) (casedByte i n (f (getD x i 0)) ∷ []) ∙ ap (λ (k : ℕ). set (sets l at (cased n t)) (at + k) (casedByte i n (f (getD x i 0)))) y)
 
-pub raised-all : (f : ℕ → ℕ) (n : ℕ) (l : List ℕ) (at : ℕ) (x : List ℕ) (i : ℕ) → length x ≤ i → sets l at (raised n (map f (take i x))) ≡ sets l at (raised n (map f x))
-raised-all f n l at x i h = ap (λ (y : List ℕ). sets l at (raised n (map f y))) (take-all i x h)
+pub raised-all : (f : ℕ → ℕ) (n : ℕ) (l : List ℕ) (at : ℕ) (x : List ℕ) (i : ℕ) → length x ≤ i → sets l at (cased n (map f (take i x))) ≡ sets l at (cased n (map f x))
+raised-all f n l at x i h = ap (λ (y : List ℕ). sets l at (cased n (map f y))) (take-all i x h)
 
-pub raised-yes : (i n b r : ℕ) → i < n → r ≡ upperByte b → r ≡ raisedByte i n b
-unfolding raisedByte
+pub raised-yes : (i n b r : ℕ) → i < n → r ≡ upperByte b → r ≡ casedByte i n b
+unfolding casedByte
 raised-yes i n b r h e = e ∙ ap (λ (c : Bool). cond c (upperByte b) b) (sym (lt-ltb i n h))
 
-pub raised-no : (i n b : ℕ) → n ≤ i → b ≡ raisedByte i n b
-unfolding raisedByte
+pub raised-no : (i n b : ℕ) → n ≤ i → b ≡ casedByte i n b
+unfolding casedByte
 raised-no i n b h = ap (λ (c : Bool). cond c (upperByte b) b) (sym (le-ltb i n h))
 
 -- scripts and regions
-pub raised-title : (t : Tag) → raised 1 t ≡ title t
-unfolding raised title
+pub raised-title : (t : Tag) → cased 1 t ≡ title t
+unfolding cased title
 raised-title [] = refl
 raised-title (b ∷ bs) = refl
 
-pub raised-upper : (n : ℕ) (t : Tag) → length t ≤ n → raised n t ≡ upper t
-unfolding raised upper
+pub raised-upper : (n : ℕ) (t : Tag) → length t ≤ n → cased n t ≡ upper t
+unfolding cased upper
 raised-upper zero [] h = refl
 raised-upper zero (b ∷ bs) h = absurd (omega arith)
 raised-upper (suc n) [] h = refl
 raised-upper (suc n) (b ∷ bs) h = ap (_∷_ (upperByte b)) (raised-upper n bs (omega arith))
 
-pub raised-start : (f : ℕ → ℕ) (n : ℕ) (l : List ℕ) (at : ℕ) → l ≡ sets l at (raised n (map f []))
+pub raised-start : (f : ℕ → ℕ) (n : ℕ) (l : List ℕ) (at : ℕ) → l ≡ sets l at (cased n (map f []))
 raised-start f n l at = ap (sets l at) (sym (raised-nil n))

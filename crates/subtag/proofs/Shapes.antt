@@ -9,7 +9,7 @@ use lib.Dec.{eqb}
 use lib.ListN.{length}
 use borrow.Author.Tests.{le-leb, lt-leb, eq-eqb, ne-eqb, eqb-true, eqb-false}
 use Rattle.standard.specs.Tag.{Tag}
-use Rattle.standard.specs.Grammar.{small, digit, every, startsWithDigit, Size, empty, one, two, three, four, several, long, sizeOf, languageSize, wrongLength, oneSize, twoSize, isLanguage, aScript, aRegion, aVariant, aNone, kind, kindOf, isSingleton, isTwo, isKeywordKey, isFieldKey}
+use Rattle.standard.specs.Grammar.{small, digit, every, startsWithDigit, Size, size0, size1, size2, size3, size4, size5to8, sizeOver8, sizeOf, languageSize, wrongLength, oneSize, twoSize, isLanguage, aScript, aRegion, aVariant, aNone, kind, kindOf, isSingleton, isTwo, isKeywordKey, isFieldKey}
 use Rattle.standard.specs.Reading.{wrongSize}
 use Rattle.subtag.specs.declared.Subtag.{Subtag}
 use Rattle.subtag.specs.declared.Class.{Class}
@@ -21,33 +21,33 @@ use Rattle.subtag.proofs.Bytes.{classed}
 
 -- Sizes.
 module _ (n : ℕ) where
-  pub size-empty : n ≡ 0 → sizeFrom n ≡ empty
+  pub size-empty : n ≡ 0 → sizeFrom n ≡ size0
   unfolding sizeFrom
   size-empty e = rw e
 
-  pub size-one : n ≡ 1 → sizeFrom n ≡ one
+  pub size-one : n ≡ 1 → sizeFrom n ≡ size1
   unfolding sizeFrom
   size-one e = rw e
 
-  pub size-two : n ≡ 2 → sizeFrom n ≡ two
+  pub size-two : n ≡ 2 → sizeFrom n ≡ size2
   unfolding sizeFrom
   size-two e = rw e
 
-  pub size-three : n ≡ 3 → sizeFrom n ≡ three
+  pub size-three : n ≡ 3 → sizeFrom n ≡ size3
   unfolding sizeFrom
   size-three e = rw e
 
-  pub size-four : n ≡ 4 → sizeFrom n ≡ four
+  pub size-four : n ≡ 4 → sizeFrom n ≡ size4
   unfolding sizeFrom
   size-four e = rw e
 
-  pub size-several : 5 ≤ n → n ≤ 8 → sizeFrom n ≡ several
+  pub size-several : 5 ≤ n → n ≤ 8 → sizeFrom n ≡ size5to8
   unfolding sizeFrom
   size-several h k =
       simp
       (ne-eqb n 0 (λ e. omega arith), ne-eqb n 1 (λ e. omega arith), ne-eqb n 2 (λ e. omega arith), ne-eqb n 3 (λ e. omega arith), ne-eqb n 4 (λ e. omega arith), le-leb n 8 k)
 
-  pub size-long : 8 < n → sizeFrom n ≡ long
+  pub size-long : 8 < n → sizeFrom n ≡ sizeOver8
   unfolding sizeFrom
   size-long h =
       simp
@@ -233,11 +233,11 @@ module _ (t : Subtag) where
 
   pub language-four : t .len ≡ 4 → false ≡ languageFrom t
   unfolding languageSize
-  language-four e = language-not four (size-four (t .len) e) refl
+  language-four e = language-not size4 (size-four (t .len) e) refl
 
   pub language-long : 8 < t .len → false ≡ languageFrom t
   unfolding languageSize
-  language-long h = language-not long (size-long (t .len) h) refl
+  language-long h = language-not sizeOver8 (size-long (t .len) h) refl
 
   pub language-letters : 2 ≤ t .len → (t .len ≡ 4 → ⊥) → t .len ≤ 8 → eqb (t .letters) (t .len) ≡ languageFrom t
   unfolding languageFrom languageSize

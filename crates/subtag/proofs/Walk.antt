@@ -3,14 +3,11 @@
 use mathlib.Core.Path.{_≡_, refl, sym, ap, _∙_}
 use mathlib.Core.Bool.{Bool, true, false}
 use mathlib.Core.List.{List, [], _∷_}
-use mathlib.Core.Logic.{_⊎_, inl, inr}
 use Prim.Native.Nat.{ℕ, suc, _+_, _-_, _≤_, _<_}
 use native.Mathlib.Numerals.{add-one}
 use native.Mathlib.Omega.{arith}
-use lib.Dec.{leb}
 use lib.ListN.{length, getD, take, drop, drop-of-length-le, length-drop}
 use lib.Seq.{drop-cons, drop-drop, take-all}
-use borrow.Author.Tests.{leb-true, leb-false}
 use Rattle.standard.specs.Tag.{Tag, headTag, onto}
 use Rattle.standard.specs.Grammar.{separator, lowerByte}
 use Rattle.standard.specs.Reading.{split, afterFirst}
@@ -121,7 +118,7 @@ split-next s h =
     let p = led-sep (getD s n 0) (drop (suc n) s) (rw c at (r .begins)) in
     split-cons s ∙ ap (_∷_ (headTag (split s))) (sym (r .tags) ∙ ap (λ (x : List ℕ). afterFirst (split x)) c ∙ after-sep (getD s n 0) (drop (suc n) s) p)
 
--- what the judge says of the part from `at` on
+-- what the scan says of the part from `at` on
 pub judged : (s : List ℕ) (at : ℕ) (r : Subtag) → r ≡ subtagOf (headTag (split (take (length s - at) (drop at s)))) → r ≡ subtagOf (headTag (split (drop at s)))
 judged s at r e = e ∙ ap (λ (x : List ℕ). subtagOf (headTag (split x))) (take-all (length s - at) (drop at s) (simp length-drop (omega arith)))
 
@@ -134,13 +131,6 @@ judged-fits s at r e =
     let n = judged-len (headTag (split (drop at s))) r (judged s at r e) in
     let f = rw length-drop at (label-fits (drop at s)) in
     omega arith
-
-pub le-or-lt : (a b : ℕ) → (a ≤ b) ⊎ (b < a)
-le-or-lt a b = go (leb a b) refl
-  where
-    go : (t : Bool) → leb a b ≡ t → (a ≤ b) ⊎ (b < a)
-    go true h = inl (leb-true a b h)
-    go false h = inr (leb-false a b h)
 
 module _ (s : List ℕ) (at len : ℕ) (e : len ≡ length (headTag (split (drop at s)))) where
   pub walk-more : len < length s - at → split (drop at s) ≡ headTag (split (drop at s)) ∷ split (drop (at + len + 1) s)

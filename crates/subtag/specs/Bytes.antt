@@ -61,15 +61,15 @@ digitOf Separator = 0
 digitOf Other = 0
 
 -- in lower case; a separator is '-'
-unfoldable pub tidyByte : ℕ → ℕ
-tidyByte b = cond (separator b) 45 (lowerByte b)
+unfoldable pub normalByte : ℕ → ℕ
+normalByte b = cond (separator b) 45 (lowerByte b)
 
 -- the first so many bytes as capitals: one for a script, all for a region
-unfoldable pub raised : ℕ → Tag → Tag
-raised zero t = t
-raised (suc n) [] = []
-raised (suc n) (b ∷ bs) = upperByte b ∷ raised n bs
+unfoldable pub cased : ℕ → Tag → Tag
+cased zero t = t
+cased (suc n) [] = []
+cased (suc n) (b ∷ bs) = upperByte b ∷ cased n bs
 
 -- the byte at an index, of which the first so many are capitals
-unfoldable pub raisedByte : ℕ → ℕ → ℕ → ℕ
-raisedByte i n b = cond (ltb i n) (upperByte b) b
+unfoldable pub casedByte : ℕ → ℕ → ℕ → ℕ
+casedByte i n b = cond (ltb i n) (upperByte b) b

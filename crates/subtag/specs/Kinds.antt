@@ -4,14 +4,14 @@
 use mathlib.Core.Bool.{Bool, cond, _&&_}
 use Prim.Native.Nat.{ℕ}
 use lib.Dec.{eqb, leb}
-use Rattle.standard.specs.Grammar.{small, digit, Size, empty, one, two, three, four, several, long, languageSize, kind, Kind as StandardKind, aScript, aRegion, aVariant, aNone}
+use Rattle.standard.specs.Grammar.{small, digit, Size, size0, size1, size2, size3, size4, size5to8, sizeOver8, languageSize, kind, Kind as StandardKind, aScript, aRegion, aVariant, aNone}
 use Rattle.subtag.specs.declared.Subtag.{Subtag}
 use Rattle.subtag.specs.declared.Kind.{Kind}
 use Rattle.subtag.specs.declared.Kind.the-variants.{Script, Region, Variant, Neither}
 
 unfoldable pub sizeFrom : ℕ → Size
 sizeFrom n =
-    cond (eqb n 0) empty (cond (eqb n 1) one (cond (eqb n 2) two (cond (eqb n 3) three (cond (eqb n 4) four (cond (leb n 8) several long)))))
+    cond (eqb n 0) size0 (cond (eqb n 1) size1 (cond (eqb n 2) size2 (cond (eqb n 3) size3 (cond (eqb n 4) size4 (cond (leb n 8) size5to8 sizeOver8)))))
 
 unfoldable pub languageFrom : Subtag → Bool
 languageFrom t = languageSize (sizeFrom (t .len)) && eqb (t .letters) (t .len)

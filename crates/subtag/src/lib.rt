@@ -1,5 +1,5 @@
-// Bytes and subtags: the class of a byte, which one match decides and everything else goes by; letter case; the subtag at
-// the front of what is left of an identifier; the order of byte strings.
+// Inner. Bytes and subtags: the class of a byte, which one match decides and everything else goes by; letter case; the
+// subtag at the front of what is left of an identifier; the order of byte strings.
 ghost use mathlib.Core.Path.{_≡_};
 ghost use mathlib.Core.List.{map};
 ghost use Prim.Native.Nat.{_+_, _≤_, _<_};
@@ -8,7 +8,7 @@ ghost use lib.Seq.{sets};
 ghost use Rattle.standard.specs.Tag.{headTag};
 ghost use Rattle.standard.specs.Grammar.{lowerByte, upperByte, separator, small, capital, digit as digitByte};
 ghost use Rattle.standard.specs.Reading.{split};
-ghost use Rattle.subtag.specs.Bytes.{classOf, isSeparator, letterOf, digitOf, tidyByte, raised, raisedByte};
+ghost use Rattle.subtag.specs.Bytes.{classOf, isSeparator, letterOf, digitOf, normalByte, cased, casedByte};
 ghost use Rattle.subtag.specs.Subtags.{firstByte, subtagOf};
 ghost use Rattle.subtag.specs.Kinds.{languageFrom, kindFrom, kindIs, keywordFrom, fieldFrom};
 
@@ -52,7 +52,7 @@ pub fn lower(b: u8) -> u8
     }
 }
 
-pub fn upper(b: u8) -> u8
+pub(crate) fn upper(b: u8) -> u8
     ensures { λ r. ⌜ r ≡ upperByte b ⌝ }
 {
     let k = class_of(b);
@@ -66,8 +66,8 @@ pub fn upper(b: u8) -> u8
 }
 
 // In lower case; a separator as '-'.
-pub fn tidy(b: u8) -> u8
-    ensures { λ r. ⌜ r ≡ tidyByte b ⌝ }
+pub(crate) fn normalise(b: u8) -> u8
+    ensures { λ r. ⌜ r ≡ normalByte b ⌝ }
 {
     if is_separator(b) {
         return 45;
@@ -146,7 +146,7 @@ fn first_of(rest: &[u8]) -> u8
 }
 
 // The subtag at the front of rest, up to the next separator or the end.
-pub fn judge(rest: &[u8]) -> Subtag
+pub fn scan(rest: &[u8]) -> Subtag
     ensures { λ r. ⌜ r ≡ subtagOf (headTag (split (now (rest .entry)))) ⌝ }
 {
     let first = first_of(rest);
@@ -183,21 +183,21 @@ pub fn judge(rest: &[u8]) -> Subtag
 }
 
 // Writes src at the place at, in lower case and with the separator '-', and gives the next place.
-pub fn put_tidy(src: &[u8], out: &mut [u8], at: usize) -> usize
+pub fn put_normalised(src: &[u8], out: &mut [u8], at: usize) -> usize
     requires { ⌜ at + length (now src) ≤ length (now out) ⌝ }
-    ensures { λ r. ⌜ (r ≡ at + length (now (src .entry))) × (now (out .exit) ≡ sets (now (out .entry)) at (map tidyByte (now (src .entry)))) ⌝ }
+    ensures { λ r. ⌜ (r ≡ at + length (now (src .entry))) × (now (out .exit) ≡ sets (now (out .entry)) at (map normalByte (now (src .entry)))) ⌝ }
 {
     let mut i = 0;
     while i < src.len() {
-        out[at + i] = tidy(src[i]);
+        out[at + i] = normalise(src[i]);
         i += 1;
     }
     at + i
 }
 
 // The byte at the index i, of which the first count are to be capitals.
-pub fn raise(b: u8, i: usize, count: usize) -> u8
-    ensures { λ r. ⌜ r ≡ raisedByte i count b ⌝ }
+pub fn recase(b: u8, i: usize, count: usize) -> u8
+    ensures { λ r. ⌜ r ≡ casedByte i count b ⌝ }
 {
     if i < count {
         return upper(b);
@@ -206,13 +206,13 @@ pub fn raise(b: u8, i: usize, count: usize) -> u8
 }
 
 // Writes src in lower case but for its first count bytes, which become capitals: one for title case, all for upper case.
-pub fn put_raised(src: &[u8], count: usize, out: &mut [u8], at: usize) -> usize
+pub fn put_cased(src: &[u8], count: usize, out: &mut [u8], at: usize) -> usize
     requires { ⌜ at + length (now src) ≤ length (now out) ⌝ }
-    ensures { λ r. ⌜ (r ≡ at + length (now (src .entry))) × (now (out .exit) ≡ sets (now (out .entry)) at (raised count (map tidyByte (now (src .entry))))) ⌝ }
+    ensures { λ r. ⌜ (r ≡ at + length (now (src .entry))) × (now (out .exit) ≡ sets (now (out .entry)) at (cased count (map normalByte (now (src .entry))))) ⌝ }
 {
     let mut i = 0;
     while i < src.len() {
-        out[at + i] = raise(tidy(src[i]), i, count);
+        out[at + i] = recase(normalise(src[i]), i, count);
         i += 1;
     }
     at + i
@@ -327,7 +327,7 @@ fn of_four(t: Subtag) -> Kind
 }
 
 // The key of a keyword: a letter or digit, then a letter.
-pub fn is_keyword(t: Subtag) -> bool
+pub fn is_keyword_key(t: Subtag) -> bool
     ensures { λ r. ⌜ r ≡ keywordFrom t ⌝ }
 {
     if t.len != 2 {
@@ -340,7 +340,7 @@ pub fn is_keyword(t: Subtag) -> bool
 }
 
 // The key of a field: a letter, then a digit.
-pub fn is_field(t: Subtag) -> bool
+pub fn is_field_key(t: Subtag) -> bool
     ensures { λ r. ⌜ r ≡ fieldFrom t ⌝ }
 {
     if t.len != 2 {

@@ -13,7 +13,7 @@ use lib.ListN.{length, take, drop, getD, set, replicate, length-drop, length-set
 use lib.Seq.{drop-cons, getD-set-same, getD-set-other, take-suc}
 use borrow.Author.Tests.{eq-eqb, ne-eqb, lt-ltb, le-ltb, eqb-true}
 use Rattle.standard.specs.Table.{Found as Located, located}
-use Rattle.subtag.proofs.Walk.{le-or-lt}
+use Rattle.standard.proofs.General.{le-or-lt}
 use Rattle.byte_string.specs.Strings.{endOf}
 use Rattle.table.specs.Lines.{starts, noRow, rowAt}
 use Rattle.table.specs.Search.{Opens, rowFrom}

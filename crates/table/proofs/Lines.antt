@@ -5,7 +5,7 @@ use mathlib.Core.Bool.{Bool, true, false, cond}
 use mathlib.Core.List.{List, [], _∷_, _++_}
 use mathlib.Core.Option.{Option, none, some}
 use mathlib.Core.Logic.{_⊎_, ⊎-elim}
-use Rattle.subtag.proofs.Walk.{le-or-lt}
+use Rattle.standard.proofs.General.{le-or-lt, clash}
 use Prim.Native.Nat.{ℕ, zero, suc, _+_, _-_, _≤_, _<_, zero-le, suc-le-suc}
 use native.Mathlib.Nat.{le-of-suc-le-suc, not-suc-le-zero, sub-zero, suc-sub-suc, le-antisymm, zero-sub}
 use native.Mathlib.Numerals.{add-one}
@@ -15,13 +15,13 @@ use lib.ListN.{length, take, drop, getD, length-append, length-take, length-drop
 use lib.Seq.{drop-cons, drop-drop, drop-length, take-nil}
 use borrow.Author.Tests.{eq-eqb, ne-eqb}
 use Rattle.standard.specs.Tag.{Tag, onto}
-use Rattle.standard.proofs.Bytes.{clash}
 use Rattle.standard.specs.Table.{Found as Located, pieces, after, rows, lookup, locatedFrom, located}
 use Rattle.table.specs.declared.Found.{Found}
 use Rattle.byte_string.specs.Strings.{endOf}
 use Rattle.table.specs.Lines.{lines, starts, foundIs, noRow, rowAt, valueOf, valueIf, valueOr, isFound}
 use Rattle.table.specs.Search.{rowFrom}
 use Rattle.byte_string.proofs.Ends.{end-ge, ends}
+use Rattle.standard.proofs.Table.{pieces-some}
 
 pub cond-same : {A : Type 0} (b : Bool) (a : A) → cond b a a ≡ a
 cond-same true a = refl
@@ -125,20 +125,6 @@ unfoldable pub trimmed : List (List ℕ) → List (List ℕ)
 trimmed [] = []
 trimmed (l ∷ []) = one l
 trimmed (l ∷ m ∷ ls) = l ∷ trimmed (m ∷ ls)
-
-pub record Some (s : ℕ) (x : List ℕ) : Type 0 where
-  pub first : Tag
-  pub more : List Tag
-  pub are : pieces s x ≡ first ∷ more
-
-pub pieces-some : (s : ℕ) (x : List ℕ) → Some s x
-unfolding pieces onto
-pieces-some s [] = record { first = []; more = []; are = refl }
-pieces-some s (b ∷ bs) = go (eqb b s) refl (pieces-some s bs)
-  where
-    go : (t : Bool) → eqb b s ≡ t → Some s bs → Some s (b ∷ bs)
-    go true e p = record { first = []; more = pieces s bs; are = rw (e, pieces) }
-    go false e p = record { first = b ∷ p .first; more = p .more; are = rw (e, pieces) (rw (p .are)) }
 
 pub lines-trimmed : (t : List ℕ) → lines t ≡ trimmed (pieces 10 t)
 unfolding lines pieces trimmed onto

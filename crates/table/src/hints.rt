@@ -1,9 +1,9 @@
 // Hints beside a table, made once where many keys are looked up: a no mostly takes one read, and a yes one comparison.
 // A hint that leads nowhere costs time only: the search by halves decides then.
 use crate::Found;
-use byte_string::end_of;
 use crate::find_sorted;
 use crate::starts_row;
+use byte_string::end_of;
 ghost use mathlib.Core.Path.{_≡_};
 ghost use Prim.Native.Nat.{_+_, _≤_, _<_};
 ghost use lib.ListN.{length};
@@ -183,7 +183,8 @@ fn row_at(t: &[u8], p: usize, key: &[u8]) -> Found
 
 // The row with the key, by its hint.
 pub fn find_by(t: &[u8], v: usize, key: &[u8]) -> Found
-    ensures { λ r. ⌜ (Sorted (now (t .entry)) → Leads (now (t .entry)) (now (key .entry)) v → foundIs r ≡ located (now (t .entry)) (now (key .entry))) × (r .start + r .len ≤ length (now (t .entry))) ⌝ }
+    ensures { λ r. let t = now (t .entry) in let key = now (key .entry) in
+        ⌜ (Sorted t → Leads t key v → foundIs r ≡ located t key) × (r .start + r .len ≤ length t) ⌝ }
 {
     if v == 0 {
         return nothing();
@@ -203,7 +204,8 @@ pub fn find_by(t: &[u8], v: usize, key: &[u8]) -> Found
 
 // As find, of a sorted table with its hints.
 pub fn find_hinted(t: &[u8], hints: &[u16], key: &[u8]) -> Found
-    ensures { λ r. ⌜ (Indexed (now (t .entry)) (now (hints .entry)) → foundIs r ≡ located (now (t .entry)) (now (key .entry))) × (r .start + r .len ≤ length (now (t .entry))) ⌝ }
+    ensures { λ r. let t = now (t .entry) in let hints = now (hints .entry) in let key = now (key .entry) in
+        ⌜ (Indexed t hints → foundIs r ≡ located t key) × (r .start + r .len ≤ length t) ⌝ }
 {
     find_by(t, hint(hints, slot_from(0, key)), key)
 }

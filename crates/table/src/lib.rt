@@ -1,5 +1,8 @@
-// Tables as lent bytes: the lookup of one row, which hands back the value as a part of the table. `lookup` reads line by
-// line and answers for all bytes; `lookup_sorted` gives the same answer by halves where the rows ascend.
+// Inner. Tables as lent bytes: the lookup of one row, which hands back the value as a part of the table. `lookup`
+// reads line by line and answers for all bytes; `lookup_sorted` gives the same answer by halves where the rows ascend.
+pub mod hints;
+
+use byte_string::end_of;
 ghost use mathlib.Core.Path.{_≡_};
 ghost use mathlib.Core.List.{[], _∷_, _++_};
 ghost use Prim.Native.Nat.{_+_, _≤_};
@@ -7,9 +10,6 @@ ghost use lib.ListN.{length};
 ghost use Rattle.standard.specs.Table.{located};
 ghost use Rattle.table.specs.Lines.{starts, foundIs, valueOf};
 ghost use Rattle.table.specs.Search.{below, Sorted, LineStart, Landed};
-use byte_string::end_of;
-
-pub mod hints;
 
 // Does the line begin with the key and a tab?
 pub fn starts_row(line: &[u8], key: &[u8]) -> bool
@@ -74,7 +74,7 @@ pub fn lookup<'a>(t: &'a [u8], key: &[u8], found: &mut bool) -> &'a [u8]
 }
 
 // Does the line come before every line that begins with the key and a tab?
-pub fn below_row(line: &[u8], key: &[u8]) -> bool
+pub(crate) fn below_row(line: &[u8], key: &[u8]) -> bool
     ensures { λ r. ⌜ r ≡ below (now (line .entry)) (now (key .entry) ++ (9 ∷ [])) ⌝ }
 {
     let n = key.len();
@@ -157,7 +157,7 @@ pub fn find_sorted(t: &[u8], key: &[u8]) -> Found
 }
 
 // As lookup, of a sorted table.
-pub fn lookup_sorted<'a>(t: &'a [u8], key: &[u8], found: &mut bool) -> &'a [u8]
+pub(crate) fn lookup_sorted<'a>(t: &'a [u8], key: &[u8], found: &mut bool) -> &'a [u8]
     ensures { λ r. ⌜ (Sorted (now (t .entry)) → now r ≡ valueOf (now (t .entry)) (located (now (t .entry)) (now (key .entry)))) ⌝ }
     ensures { λ _. ⌜ (Sorted (now (t .entry)) → now (found .exit) ≡ (located (now (t .entry)) (now (key .entry))) .found) ⌝ }
 {

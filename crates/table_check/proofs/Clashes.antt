@@ -10,32 +10,27 @@ use native.Mathlib.Numerals.{add-one}
 use native.Mathlib.Omega.{arith}
 use lib.ListN.{length, take, drop, drop-of-length-le, length-take, length-drop}
 use borrow.Author.Tests.{lt-ltb}
-use Rattle.standard.specs.Tag.{Tag, same, headTag}
+use Rattle.standard.specs.Tag.{Tag, same, headTag, All}
 use Rattle.standard.specs.Identifier.{und, complete, sameThree, withoutUnknown}
 use Rattle.standard.specs.Reading.{fault}
 use Rattle.standard.specs.Chain.{line}
-use Rattle.standard.specs.Table.{pieces, parse, isThree, tablesOf, likelyShape, parentShape, likelyFree, parentFree, clashFault}
-use Rattle.standard.proofs.Tags.{All}
-use Rattle.standard.proofs.Table.{Pass}
-use Rattle.standard.proofs.Bytes.{bool-cases, clash, and-true}
+use Rattle.standard.specs.Table.{pieces, parse, isThree, tablesOf, likelyShape, parentShape, likelyFree, parentFree, clashFault, TableKind, aliases, likely, parents, shapeOf, freeOf, Pass}
+use Rattle.standard.proofs.General.{bool-cases, and-true, le-or-lt, no}
 use Rattle.byte_string.specs.Strings.{endOf}
 use Rattle.byte_string.proofs.Ends.{ends}
-use Rattle.table.proofs.Lines.{pieces-some, starts-front}
+use Rattle.table.proofs.Lines.{starts-front}
+use Rattle.standard.proofs.Table.{pieces-some}
 use Rattle.row_shapes.specs.declared.Table.{Table}
-use Rattle.row_shapes.specs.declared.Table.the-variants.{Aliases, Likely, Parents}
+use Rattle.row_shapes.specs.declared.Table.the-variants.{Parents}
 use Rattle.row_shapes.specs.Shapes.{others}
-use Rattle.row_shapes.specs.Rows.{shapeOf}
+use Rattle.row_shapes.specs.Rows.{kindIs}
 use Rattle.row_shapes.proofs.Pieces.{Free, pieces-at, pieces-first, others-none, pieces-free}
-use Rattle.subtag.proofs.Walk.{le-or-lt}
 use Rattle.parents.specs.Walk.{cut, ValueOk, reachesFrom, OwnRow}
-use Rattle.table_check.specs.Free.{freeThree, isThrees, secondOf, freeParent, freeRow, freeOf}
+use Rattle.table_check.specs.Free.{freeThree, isThrees, secondOf, freeParent, freeRow}
 use Rattle.table_check.proofs.Frees.{free-three, free-alias, others-some, last-piece}
-use Rattle.parents.proofs.Walks.{reaches-parents, key-cut, cut-size}
+use Rattle.parents.proofs.Walks.{reaches-parents, cut-cut as key-cut, cut-length as cut-size}
 use Rattle.table.specs.Lines.{starts}
 use Rattle.row_shapes.proofs.Passes.{row-split}
-
-no : {P : Type 0} → false ≡ true → P
-no e = clash {b = true} refl (sym e)
 
 -- Rows of two fields.
 pub likely-threes : (ts : List Tag) → likelyShape ts ≡ true → isThrees ts ≡ true
@@ -92,17 +87,17 @@ two-line l x q s = go (pieces 9 l) refl s (pieces-free 9 l)
 
 -- The standard's test is ours, over rows that have their shape.
 module _ (A L P : List ℕ) where
-  pub free-is : (table : Table) (ts : List Tag) → shapeOf table ts ≡ true → freeOf table (tablesOf A L P) ts ≡ freeRow table A P ts
-  unfolding freeOf freeRow shapeOf likelyShape parentShape likelyFree parentFree secondOf freeParent reachesFrom headTag
-  free-is Aliases ts e = free-alias A L P ts e
-  free-is Likely [] e = no e
-  free-is Likely (a ∷ []) e = no e
-  free-is Likely (k ∷ v ∷ []) e = free-three A L P (parse v)
-  free-is Likely (a ∷ b ∷ c ∷ ts) e = no e
-  free-is Parents [] e = no e
-  free-is Parents (a ∷ []) e = no e
-  free-is Parents (k ∷ v ∷ []) e = ap₂ _&&_ (free-three A L P (parse v)) (reaches-parents A L [] [] P 8 (line (parse k) []))
-  free-is Parents (a ∷ b ∷ c ∷ ts) e = no e
+  pub free-is : (table : TableKind) (ts : List Tag) → shapeOf table ts ≡ true → freeOf (tablesOf A L P) table ts ≡ freeRow table A P ts
+  unfolding freeOf freeRow kindIs shapeOf likelyShape parentShape likelyFree parentFree secondOf freeParent reachesFrom headTag
+  free-is aliases ts e = free-alias A L P ts e
+  free-is likely [] e = no e
+  free-is likely (a ∷ []) e = no e
+  free-is likely (k ∷ v ∷ []) e = free-three A L P (parse v)
+  free-is likely (a ∷ b ∷ c ∷ ts) e = no e
+  free-is parents [] e = no e
+  free-is parents (a ∷ []) e = no e
+  free-is parents (k ∷ v ∷ []) e = ap₂ _&&_ (free-three A L P (parse v)) (reaches-parents A L [] [] P 8 (line (parse k) []))
+  free-is parents (a ∷ b ∷ c ∷ ts) e = no e
 
 -- One row of the pass.
 clash-on : (free : List Tag → Bool) (at : ℕ) (l : Tag) (ls : List Tag) (m : Tag) (ms : List Tag) → ls ≡ m ∷ ms → free (pieces 9 l) ≡ true → clashFault free at (l ∷ ls) ≡ clashFault free (at + suc (length l)) ls
@@ -157,28 +152,28 @@ unfolding clashFault pieces
 clash-end free t i h = rw (drop-of-length-le t h)
 
 -- the standard's pass is ours
-pub clash-is : (A L P : List ℕ) (table : Table) (at : ℕ) (ls : List Tag) → Pass (shapeOf table) ls → clashFault (freeOf table (tablesOf A L P)) at ls ≡ clashFault (freeRow table A P) at ls
+pub clash-is : (A L P : List ℕ) (table : TableKind) (at : ℕ) (ls : List Tag) → Pass (shapeOf table) ls → clashFault (freeOf (tablesOf A L P) table) at ls ≡ clashFault (freeRow table A P) at ls
 unfolding clashFault Pass
 clash-is A L P table at [] p = refl
 clash-is A L P table at (l ∷ []) p = refl
 clash-is A L P table at (l ∷ m ∷ ls) p = step (free-is A L P table (pieces 9 l) (p .0)) (clash-is A L P table (at + suc (length l)) (m ∷ ls) (p .1))
   where
-    step : freeOf table (tablesOf A L P) (pieces 9 l) ≡ freeRow table A P (pieces 9 l)
-        → clashFault (freeOf table (tablesOf A L P)) (at + suc (length l)) (m ∷ ls) ≡ clashFault (freeRow table A P) (at + suc (length l)) (m ∷ ls)
-        → clashFault (freeOf table (tablesOf A L P)) at (l ∷ m ∷ ls) ≡ clashFault (freeRow table A P) at (l ∷ m ∷ ls)
+    step : freeOf (tablesOf A L P) table (pieces 9 l) ≡ freeRow table A P (pieces 9 l)
+        → clashFault (freeOf (tablesOf A L P) table) (at + suc (length l)) (m ∷ ls) ≡ clashFault (freeRow table A P) (at + suc (length l)) (m ∷ ls)
+        → clashFault (freeOf (tablesOf A L P) table) at (l ∷ m ∷ ls) ≡ clashFault (freeRow table A P) at (l ∷ m ∷ ls)
     step f n = bool-cases (freeRow table A P (pieces 9 l)) (λ b. rw (f ∙ b, clashFault) (rw (b, clashFault) n)) (λ b. rw (f ∙ b, clashFault) (rw (b, clashFault)))
 
 -- by the table
 module _ {k : Table} where
-  pub shape-is : (t : Table) (ts : List Tag) → k ≡ t → shapeOf k ts ≡ true → shapeOf t ts ≡ true
-  shape-is t ts e f = sym (ap (λ (x : Table). shapeOf x ts) e) ∙ f
+  pub shape-is : (t : Table) (ts : List Tag) → k ≡ t → shapeOf (kindIs k) ts ≡ true → shapeOf (kindIs t) ts ≡ true
+  shape-is t ts e f = sym (ap (λ (x : Table). shapeOf (kindIs x) ts) e) ∙ f
 
-  pub pass-parents : (ls : List Tag) → k ≡ Parents → Pass (shapeOf k) ls → Pass parentShape ls
-  unfolding shapeOf
+  pub pass-parents : (ls : List Tag) → k ≡ Parents → Pass (shapeOf (kindIs k)) ls → Pass parentShape ls
+  unfolding kindIs shapeOf
   pass-parents ls e p = rw e at p
 
-  pub free-by : (t : Table) (A P : List ℕ) (ts : List Tag) (r : Bool) → k ≡ t → r ≡ freeRow t A P ts → r ≡ freeRow k A P ts
-  free-by t A P ts r e f = f ∙ ap (λ (x : Table). freeRow x A P ts) (sym e)
+  pub free-by : (t : Table) (A P : List ℕ) (ts : List Tag) (r : Bool) → k ≡ t → r ≡ freeRow (kindIs t) A P ts → r ≡ freeRow (kindIs k) A P ts
+  free-by t A P ts r e f = f ∙ ap (λ (x : Table). freeRow (kindIs x) A P ts) (sym e)
 
 -- a parent row
 module _ (A P : List ℕ) (ts : List Tag) where

@@ -14,12 +14,12 @@ use Rattle.standard.specs.Grammar.{isLanguage}
 use Rattle.standard.specs.Identifier.{Three as Subtags, three, und}
 use Rattle.standard.specs.Table.{Found as Located, pieces, lookup, rows, located, parse, isThree, languageIsUnd, languageKey, scriptKey, regionKey, variantKey, parsed, tablesOf, isVariantTag, aliasShape, isNone, unaliased, aliasFree}
 use Rattle.standard.proofs.Tags.{same-eq}
-use Rattle.standard.proofs.Bytes.{bool-cases, clash, and-true}
+use Rattle.standard.proofs.General.{bool-cases, clash, and-true, le-or-lt, no}
 use Rattle.byte_string.specs.Strings.{endOf}
 use Rattle.table.specs.Lines.{valueIf}
 use Rattle.byte_string.proofs.Ends.{ends}
 use Rattle.table.proofs.Lines.{lookup-located}
-use Rattle.row_shapes.specs.declared.three.Three.{Three}
+use Rattle.row_shapes.specs.declared.lsr.Three.{Three}
 use Rattle.row_shapes.specs.declared.aliases.AliasKind.{AliasKind}
 use Rattle.row_shapes.specs.declared.aliases.AliasKind.the-variants.{Language, Script, Region, Variant, Unknown}
 use Rattle.row_shapes.specs.Shapes.{isScript, isRegion, between, others, ThreeAt}
@@ -29,12 +29,8 @@ use Rattle.byte_string.proofs.Stores.{all-from}
 use Rattle.row_shapes.proofs.Pieces.{pieces-first, others-at, others-none}
 use Rattle.row_shapes.proofs.Threes.{ThreeOk, three-ok, parse-pieces}
 use Rattle.row_shapes.proofs.Judges.{alias-by}
-use Rattle.subtag.proofs.Walk.{le-or-lt}
 use Rattle.aliases.specs.Keys.{kindKey, isKey}
 use Rattle.table_check.specs.Free.{freeThree, ownTag, freeAlias}
-
-no : {P : Type 0} → false ≡ true → P
-no e = clash {b = true} refl (sym e)
 
 -- Keys that are not there.
 none-parsed : (o : Option (List ℕ)) → isNone (parsed o) ≡ isNone o

@@ -2,41 +2,37 @@
 -- Assumes nothing.
 use mathlib.Core.Path.{_≡_, refl, sym, ap, ap₂, _∙_}
 use mathlib.Core.Bool.{Bool, true, false}
-use mathlib.Core.List.{List}
-use mathlib.Core.Option.{Option, none, some}
+use mathlib.Core.List.{List, [], _∷_}
+use mathlib.Core.Option.{Option, none}
 use Prim.Native.Nat.{ℕ, _≤_, _<_}
-use native.Mathlib.Omega.{arith}
 use lib.ListN.{length}
 use borrow.Author.Tests.{le-leb, lt-leb}
 use Rattle.standard.specs.Reading.{Fault, fault}
-use Rattle.standard.proofs.Table.{firstTable-none}
-use Rattle.standard.specs.Table.{TableFault, rows, tablesOf, tooBig, rowsFault, clashFault, aliasShape, likelyShape, parentShape, aliasFree, likelyFree, parentFree, inTable, firstTable, tableNumber, shapeOf as theShapeOf, freeOf as theFreeOf, ifUsed, inUse, each, tested, sizeFault, shapeFault, freeFault, check}
-use Rattle.standard.proofs.Bytes.{clash}
+use Rattle.standard.specs.Table.{TableFault, rows, tablesOf, tooBig, rowsFault, clashFault, inTable, firstTable, TableKind, aliases, likely, parents, tableNumber, shapeOf, Used, used, Use as Purpose, toCanonicalise, toMaximise, toChain, toCheck, inUse, each, shapeFault, freeFault, check}
+use Rattle.standard.specs.Tag.{All}
+use Rattle.standard.proofs.General.{clash, bool-cases}
+use Rattle.standard.proofs.Round.{all-impl}
+use Rattle.standard.proofs.Table.{rows-pass}
+use Rattle.standard.proofs.Checks.{firstTable-none, inTable-none, Clear, AllClear, tested-none, first-none}
 use Rattle.table.specs.Search.{Sorted}
-use Rattle.row_shapes.specs.declared.Table.{Table}
 use Rattle.row_shapes.specs.declared.Table.the-variants.{Aliases, Likely, Parents}
-use Rattle.row_shapes.specs.Rows.{shapeOf}
-use Rattle.row_shapes.proofs.Sorted.{sorted, rows-pass}
+use Rattle.row_shapes.specs.Rows.{kindIs}
+use Rattle.row_shapes.proofs.Sorted.{sorted}
 use Rattle.table_check.specs.declared.Verdict.{Verdict}
 use Rattle.table_check.specs.declared.Verdict.the-variants.{Good, Bad}
-use Rattle.table_check.specs.Free.{freeRow, freeOf}
-use Rattle.table_check.specs.declared.Test.the-variants.{Size, Shape}
-use Rattle.table_check.specs.Verdicts.{inTableIf, verdictIs, numberOf, faultBy, eachFault, clashesFault, Shaped}
+use Rattle.table_check.specs.Free.{freeRow}
+use Rattle.table_check.specs.Verdicts.{verdictIs, ofTable, asUsed, anyUsed, isUsed, clashBy}
 use Rattle.table_check.proofs.Clashes.{clash-is}
 
--- A table that is used, or not.
-module _ (used : Bool) (n : ℕ) (o : Option Fault) where
-  pub unused : used ≡ false → none ≡ inTableIf used n o
-  unfolding inTableIf inTable
-  unused e = rw e
+-- A fault of a table.
+module _ (n : ℕ) (o : Option Fault) where
+  pub in-none : none ≡ o → none ≡ inTable n o
+  unfolding inTable
+  in-none f = rw (← f)
 
-  pub in-none : used ≡ true → none ≡ o → none ≡ inTableIf used n o
-  unfolding inTableIf inTable
-  in-none e f = rw (e, ← f)
-
-  pub in-some : (m p k : ℕ) → used ≡ true → fault m p ≡ o → k ≡ n → verdictIs (Bad m k p) ≡ inTableIf used n o
-  unfolding inTableIf inTable
-  in-some m p k e f g = rw (e, ← f, g)
+  pub in-some : (m p k : ℕ) → fault m p ≡ o → k ≡ n → verdictIs (Bad m p k) ≡ inTable n o
+  unfolding inTable
+  in-some m p k f g = rw (← f, g)
 
 pub small : (t : List ℕ) → length t ≤ 32768 → none ≡ tooBig t
 unfolding tooBig
@@ -48,7 +44,7 @@ large t h = rw (lt-leb (length t) 32768 h, tooBig)
 
 -- One answer after the other.
 module _ (x y z : Option TableFault) (v : Verdict) (e : verdictIs v ≡ x) where
-  pub first-bad : {n t p : ℕ} → v ≡ Bad n t p → verdictIs v ≡ firstTable x (firstTable y z)
+  pub first-bad : {n p t : ℕ} → v ≡ Bad n p t → verdictIs v ≡ firstTable x (firstTable y z)
   unfolding firstTable
   first-bad f = ap verdictIs f ∙ sym (ap (λ (o : Option TableFault). firstTable o (firstTable y z)) (sym e ∙ ap verdictIs f))
 
@@ -56,7 +52,7 @@ module _ (x y z : Option TableFault) (v : Verdict) (e : verdictIs v ≡ x) where
     none-first : x ≡ none
     none-first = sym e ∙ ap verdictIs g
 
-    pub second-bad : (w : Verdict) {n t p : ℕ} → verdictIs w ≡ y → w ≡ Bad n t p → verdictIs w ≡ firstTable x (firstTable y z)
+    pub second-bad : (w : Verdict) {n p t : ℕ} → verdictIs w ≡ y → w ≡ Bad n p t → verdictIs w ≡ firstTable x (firstTable y z)
     unfolding firstTable
     second-bad w h f = ap verdictIs f ∙ sym (ap₂ (λ (o q : Option TableFault). firstTable o (firstTable q z)) none-first (sym h ∙ ap verdictIs f))
 
@@ -64,76 +60,123 @@ module _ (x y z : Option TableFault) (v : Verdict) (e : verdictIs v ≡ x) where
     unfolding firstTable
     third w u h f k = k ∙ sym (ap₂ (λ (o q : Option TableFault). firstTable o (firstTable q z)) none-first (sym h ∙ ap verdictIs f))
 
--- The check is its three parts.
-first-first : (a b c : Option TableFault) → firstTable (firstTable a b) c ≡ firstTable a (firstTable b c)
-unfolding firstTable
-first-first none b c = refl
-first-first (some f) b c = refl
+-- The tables in use.
+pub aliases-used : (u : Purpose) → true ≡ isUsed u aliases
+unfolding isUsed asUsed anyUsed ofTable tableNumber inUse
+aliases-used toCanonicalise = refl
+aliases-used toMaximise = refl
+aliases-used toChain = refl
+aliases-used toCheck = refl
 
-first-none : (a : Option TableFault) → firstTable a none ≡ a
-unfolding firstTable
-first-none none = refl
-first-none (some f) = refl
+-- a table is in use, or it is not
+module _ {X : Type 0} (x : X) where
+  pub as-used : (u : Purpose) (k : TableKind) → isUsed u k ≡ true → asUsed u k x ≡ used k x ∷ []
+  unfolding isUsed asUsed anyUsed ofTable tableNumber inUse
+  as-used u aliases e = as-aliases u
+    where
+      as-aliases : (v : Purpose) → asUsed v aliases x ≡ used aliases x ∷ []
+      as-aliases toCanonicalise = refl
+      as-aliases toMaximise = refl
+      as-aliases toChain = refl
+      as-aliases toCheck = refl
+  as-used toCanonicalise likely e = clash e refl
+  as-used toMaximise likely e = refl
+  as-used toChain likely e = clash e refl
+  as-used toCheck likely e = refl
+  as-used toCanonicalise parents e = clash e refl
+  as-used toMaximise parents e = clash e refl
+  as-used toChain parents e = refl
+  as-used toCheck parents e = refl
 
-pub check-parts : (useL useP : Bool) (A L P : List ℕ) → firstTable (eachFault Size useL useP A L P) (firstTable (eachFault Shape useL useP A L P) (clashesFault useL useP A L P)) ≡ check useL useP A L P
-unfolding check eachFault faultBy shapeOf clashesFault inTableIf firstTable tableNumber theShapeOf theFreeOf ifUsed inUse each tested sizeFault shapeFault freeFault
-check-parts true true A L P = simp (first-first, first-none)
-check-parts true false A L P = simp (first-first, first-none)
-check-parts false true A L P = simp (first-first, first-none)
-check-parts false false A L P = simp (first-first, first-none)
+  pub not-used : (u : Purpose) (k : TableKind) → isUsed u k ≡ false → asUsed u k x ≡ []
+  unfolding isUsed asUsed anyUsed ofTable tableNumber inUse
+  not-used u aliases e = clash (sym (aliases-used u)) e
+  not-used toCanonicalise likely e = refl
+  not-used toMaximise likely e = clash refl e
+  not-used toChain likely e = refl
+  not-used toCheck likely e = clash refl e
+  not-used toCanonicalise parents e = refl
+  not-used toMaximise parents e = refl
+  not-used toChain parents e = clash refl e
+  not-used toCheck parents e = clash refl e
+
+-- One test, of a table that is used or not.
+module _ (u : Purpose) (k : TableKind) (t : List ℕ) (test : Used (List ℕ) → Option TableFault) where
+  pub unused : isUsed u k ≡ false → none ≡ each test (asUsed u k t)
+  unfolding each
+  unused e = sym (ap (each test) (not-used t u k e))
+
+  each-used : isUsed u k ≡ true → each test (asUsed u k t) ≡ test (used k t)
+  unfolding each
+  each-used e = ap (each test) (as-used t u k e) ∙ first-none (test (used k t))
+
+  pub tested-one : {o : Option TableFault} → isUsed u k ≡ true → o ≡ test (used k t) → o ≡ each test (asUsed u k t)
+  tested-one e f = f ∙ sym (each-used e)
+
+  pub clear-one : isUsed u k ≡ true → each test (asUsed u k t) ≡ none → test (used k t) ≡ none
+  clear-one e f = sym (each-used e) ∙ f
+
+-- One test, table by table.
+pub each-table : (test : Used (List ℕ) → Option TableFault) (u : Purpose) (A L P : List ℕ)
+    → firstTable (each test (asUsed u aliases A)) (firstTable (each test (asUsed u likely L)) (each test (asUsed u parents P))) ≡ each test (inUse u A L P)
+unfolding inUse asUsed ofTable tableNumber each firstTable
+each-table test toCanonicalise A L P = simp first-none
+each-table test toMaximise A L P = simp first-none
+each-table test toChain A L P = simp first-none
+each-table test toCheck A L P = simp first-none
 
 -- What the shapes give: sorted rows, each of its shape.
-in-table-none : (used : Bool) (n : ℕ) (o : Option Fault) → inTableIf used n o ≡ none → used ≡ true → o ≡ none
-unfolding inTableIf inTable
-in-table-none false n o e f = clash f refl
-in-table-none true n none e f = refl
-in-table-none true n (some g) e f = let z : _≡_ {A = ℕ} 0 1 = cc in absurd (omega arith)
+pub shape-rows : (k : TableKind) (t : List ℕ) → shapeFault (used k t) ≡ none → rowsFault (shapeOf k) none 0 (rows t) ≡ none
+unfolding shapeFault
+shape-rows k t e = inTable-none _ _ e
 
-pub shaped : (useL useP : Bool) (A L P : List ℕ) → eachFault Shape useL useP A L P ≡ none → Shaped useL useP A L P
-unfolding eachFault faultBy shapeOf
-shaped useL useP A L P e =
-    let f = firstTable-none (inTableIf true 1 (rowsFault aliasShape none 0 (rows A))) _ e in
-    let g = firstTable-none (inTableIf useL 2 (rowsFault likelyShape none 0 (rows L))) (inTableIf useP 3 (rowsFault parentShape none 0 (rows P))) (f .1) in
-    record {
-      aliases = in-table-none true 1 (rowsFault aliasShape none 0 (rows A)) (f .0) refl;
-      likely = in-table-none useL 2 (rowsFault likelyShape none 0 (rows L)) (g .0);
-      parents = in-table-none useP 3 (rowsFault parentShape none 0 (rows P)) (g .1);
-    }
+pub shape-sorted : (k : TableKind) (t : List ℕ) → shapeFault (used k t) ≡ none → Sorted t
+unfolding kindIs
+shape-sorted aliases t e = sorted Aliases t (shape-rows aliases t e)
+shape-sorted likely t e = sorted Likely t (shape-rows likely t e)
+shape-sorted parents t e = sorted Parents t (shape-rows parents t e)
 
--- 14 as the code tests it
-clash-table : (A L P t : List ℕ) (table : Table) (used : Bool) → (freeRow table A P ≡ freeRow table A t) → (used ≡ true → rowsFault (shapeOf table) none 0 (rows t) ≡ none)
-    → inTableIf used (numberOf table) (clashFault (freeRow table A t) 0 (rows t)) ≡ inTableIf used (numberOf table) (clashFault (freeOf table (tablesOf A L P)) 0 (rows t))
-unfolding inTableIf inTable
-clash-table A L P t table false q s = refl
-clash-table A L P t table true q s =
-    ap (inTableIf true (numberOf table)) (sym (clash-is A L P table 0 (rows t) (rows-pass table none 0 (rows t) (s refl)) ∙ ap (λ (f : List (List ℕ) → Bool). clashFault f 0 (rows t)) q))
+module _ (u : Purpose) (A L P : List ℕ) where
+  pub record ShapedEach : Type 0 where
+    pub aliases : each shapeFault (asUsed u aliases A) ≡ none
+    pub likely : each shapeFault (asUsed u likely L) ≡ none
+    pub parents : each shapeFault (asUsed u parents P) ≡ none
 
-module _ (useL useP : Bool) (A L P : List ℕ) (s : Shaped useL useP A L P) where
-  pub clash-aliases : inTableIf true (numberOf Aliases) (clashFault (freeRow Aliases A A) 0 (rows A)) ≡ inTableIf true 1 (clashFault (aliasFree (tablesOf A L P)) 0 (rows A))
-  unfolding freeRow freeOf
-  clash-aliases = clash-table A L P A Aliases true refl (λ _. s .aliases)
+  pub shaped-each : each shapeFault (inUse u A L P) ≡ none → ShapedEach
+  shaped-each e =
+      let f = firstTable-none _ _ (each-table shapeFault u A L P ∙ e) in
+      let g = firstTable-none _ _ (f .1) in
+      record { aliases = f .0; likely = g .0; parents = g .1 }
 
-  pub clash-likely : inTableIf useL (numberOf Likely) (clashFault (freeRow Likely A L) 0 (rows L)) ≡ inTableIf useL 2 (clashFault (likelyFree (tablesOf A L P)) 0 (rows L))
-  unfolding freeRow freeOf
-  clash-likely = clash-table A L P L Likely useL refl (s .likely)
+-- 14 as the code tests it, over rows that have their shape
+clash-one : (A L P : List ℕ) (k : TableKind) (t : List ℕ) → freeRow k A P ≡ freeRow k A t → shapeFault (used k t) ≡ none → clashBy A (used k t) ≡ freeFault (tablesOf A L P) (used k t)
+unfolding clashBy freeFault
+clash-one A L P k t q s =
+    ap (inTable (tableNumber k)) (sym (clash-is A L P k 0 (rows t) (rows-pass (shapeOf k) none 0 (rows t) (shape-rows k t s)) ∙ ap (λ (f : List (List ℕ) → Bool). clashFault f 0 (rows t)) q))
 
-  pub clash-parents : inTableIf useP (numberOf Parents) (clashFault (freeRow Parents A P) 0 (rows P)) ≡ inTableIf useP 3 (clashFault (parentFree (tablesOf A L P)) 0 (rows P))
-  unfolding freeRow freeOf
-  clash-parents = clash-table A L P P Parents useP refl (s .parents)
+pub clash-used : (u : Purpose) (A L P : List ℕ) (k : TableKind) (t : List ℕ) → freeRow k A P ≡ freeRow k A t → each shapeFault (asUsed u k t) ≡ none
+    → each (clashBy A) (asUsed u k t) ≡ each (freeFault (tablesOf A L P)) (asUsed u k t)
+clash-used u A L P k t q s =
+    bool-cases (isUsed u k)
+    (λ e. tested-one u k t (freeFault (tablesOf A L P)) e (sym (tested-one u k t (clashBy A) e refl) ∙ clash-one A L P k t q (clear-one u k t shapeFault e s)))
+    (λ e. sym (unused u k t (clashBy A) e) ∙ unused u k t (freeFault (tablesOf A L P)) e)
+
+module _ (u : Purpose) (A L P : List ℕ) (s : each shapeFault (inUse u A L P) ≡ none) where
+  pub clash-aliases : each (clashBy A) (asUsed u aliases A) ≡ each (freeFault (tablesOf A L P)) (asUsed u aliases A)
+  unfolding freeRow
+  clash-aliases = clash-used u A L P aliases A refl (shaped-each u A L P s .aliases)
+
+  pub clash-likely : each (clashBy A) (asUsed u likely L) ≡ each (freeFault (tablesOf A L P)) (asUsed u likely L)
+  unfolding freeRow
+  clash-likely = clash-used u A L P likely L refl (shaped-each u A L P s .likely)
+
+  pub clash-parents : each (clashBy A) (asUsed u parents P) ≡ each (freeFault (tablesOf A L P)) (asUsed u parents P)
+  clash-parents = clash-used u A L P parents P refl (shaped-each u A L P s .parents)
 
 -- What a check that passes gives to those who look rows up: sorted tables.
-pub record SortedTables (useL useP : Bool) (A L P : List ℕ) : Type 0 where
-  pub aliases : Sorted A
-  pub likely : useL ≡ true → Sorted L
-  pub parents : useP ≡ true → Sorted P
+unfoldable pub SortedTable : Used (List ℕ) → Type 0
+SortedTable v = Sorted (v .lent)
 
-pub check-shaped : (useL useP : Bool) (A L P : List ℕ) → check useL useP A L P ≡ none → Shaped useL useP A L P
-check-shaped useL useP A L P e =
-    let f = firstTable-none (eachFault Size useL useP A L P) (firstTable (eachFault Shape useL useP A L P) (clashesFault useL useP A L P)) (check-parts useL useP A L P ∙ e) in
-    let g = firstTable-none (eachFault Shape useL useP A L P) (clashesFault useL useP A L P) (f .1) in
-    shaped useL useP A L P (g .0)
-
-pub check-sorted : (useL useP : Bool) (A L P : List ℕ) → check useL useP A L P ≡ none → SortedTables useL useP A L P
-check-sorted useL useP A L P e =
-    let s = check-shaped useL useP A L P e in
-    record { aliases = sorted Aliases A (s .aliases); likely = λ u. sorted Likely L (s .likely u); parents = λ u. sorted Parents P (s .parents u) }
+pub check-sorted : (u : Purpose) (A L P : List ℕ) → check u A L P ≡ none → All SortedTable (inUse u A L P)
+unfolding check All AllClear Clear SortedTable
+check-sorted u A L P e = all-impl (Clear shapeFault) SortedTable (λ v h. shape-sorted (v .kind) (v .lent) h) (inUse u A L P) (tested-none _ (inUse u A L P) e .1 .0)

@@ -5,11 +5,9 @@ use mathlib.Core.Bool.{Bool, false, not, _&&_}
 use mathlib.Core.List.{List, [], _∷_}
 use Prim.Native.Nat.{ℕ}
 use Rattle.standard.specs.Tag.{Tag, headTag}
-use Rattle.standard.specs.Identifier.{Three, Tables}
+use Rattle.standard.specs.Identifier.{Three}
 use Rattle.standard.specs.Reading.{Fault, fault}
-use Rattle.row_shapes.specs.declared.Table.{Table}
-use Rattle.row_shapes.specs.declared.Table.the-variants.{Aliases, Likely, Parents}
-use Rattle.standard.specs.Table.{parse, isThree, aliasFree, likelyFree, parentFree}
+use Rattle.standard.specs.Table.{parse, isThree, TableKind, aliases, likely, parents}
 use Rattle.row_shapes.specs.declared.aliases.AliasKind.{AliasKind}
 use Rattle.row_shapes.specs.declared.aliases.AliasKind.the-variants.{Language, Script, Region, Variant, Unknown}
 use Rattle.row_shapes.specs.Rows.{kindNamed}
@@ -54,16 +52,10 @@ unfoldable pub freeParent : List ℕ → List ℕ → List Tag → Bool
 freeParent A P ts = freeThree A (parse (secondOf ts)) && reachesFrom P 8 (headTag ts)
 
 -- a row of the table t that does not clash
-unfoldable pub freeRow : Table → List ℕ → List ℕ → List Tag → Bool
-freeRow Aliases A t ts = freeAlias A ts
-freeRow Likely A t ts = freeThree A (parse (secondOf ts))
-freeRow Parents A t ts = freeParent A t ts
-
--- the standard's test of a row
-unfoldable pub freeOf : Table → Tables → List Tag → Bool
-freeOf Aliases T ts = aliasFree T ts
-freeOf Likely T ts = likelyFree T ts
-freeOf Parents T ts = parentFree T ts
+unfoldable pub freeRow : TableKind → List ℕ → List ℕ → List Tag → Bool
+freeRow aliases A t ts = freeAlias A ts
+freeRow likely A t ts = freeThree A (parse (secondOf ts))
+freeRow parents A t ts = freeParent A t ts
 
 -- the standard's fault that an answer stands for
 abbrev pub clashIs : Clash → Option Fault

@@ -1,52 +1,57 @@
--- The answer of the check of the tables, and its three parts in order.
--- Assumes nothing.
-use mathlib.Core.Path.{_≡_}
+-- The answer of the check of the tables, and the tests of one table by the code. Assumes nothing.
 use mathlib.Core.Bool.{Bool, true, false}
-use mathlib.Core.List.{List}
+use mathlib.Core.List.{List, [], _∷_}
 use mathlib.Core.Option.{Option, none, some}
 use Prim.Native.Nat.{ℕ}
-use Rattle.standard.specs.Reading.{Fault}
-use Rattle.standard.specs.Table.{TableFault, rows, tablesOf, tooBig, rowsFault, clashFault, aliasFree, likelyFree, parentFree, inTable, firstTable}
-use Rattle.row_shapes.specs.declared.Table.{Table}
-use Rattle.row_shapes.specs.declared.Table.the-variants.{Aliases, Likely, Parents}
-use Rattle.row_shapes.specs.Rows.{shapeOf}
+use lib.Dec.{eqb}
+use Rattle.standard.specs.Table.{TableFault, rows, inTable, clashFault, TableKind, tableNumber, Used, Use as Purpose, toCanonicalise, toMaximise, toChain, toCheck, inUse, each, sizeFault, shapeFault, freeFault, tablesOf}
 use Rattle.table_check.specs.declared.Test.{Test}
 use Rattle.table_check.specs.declared.Test.the-variants.{Size, Shape}
+use Rattle.table_check.specs.declared.Use.{Use}
+use Rattle.table_check.specs.declared.Use.the-variants.{Canonicalise, Maximise, Chain, Check}
 use Rattle.table_check.specs.declared.Verdict.{Verdict}
 use Rattle.table_check.specs.declared.Verdict.the-variants.{Good, Bad}
+use Rattle.table_check.specs.Free.{freeRow}
 
--- the standard's fault that an answer stands for: its number, its table and its place
+-- the standard's fault that an answer stands for: its number, its place and its table
 abbrev pub verdictIs : Verdict → Option TableFault
 verdictIs Good = none
-verdictIs (Bad number table place) = some (record { fault = record { number = number; place = place }; table = table })
+verdictIs (Bad number place table) = some (record { fault = record { number = number; place = place }; table = table })
 
-abbrev pub numberOf : Table → ℕ
-numberOf Aliases = 1
-numberOf Likely = 2
-numberOf Parents = 3
+-- the standard's word for what the tables are used for
+abbrev pub useIs : Use → Purpose
+useIs Canonicalise = toCanonicalise
+useIs Maximise = toMaximise
+useIs Chain = toChain
+useIs Check = toCheck
 
--- a fault in a table, if the operation uses it
-unfoldable pub inTableIf : Bool → ℕ → Option Fault → Option TableFault
-inTableIf false n o = none
-inTableIf true n o = inTable n o
+-- the tables of a kind
+unfoldable pub ofTable : {X : Type 0} → TableKind → List (Used X) → List (Used X)
+ofTable k [] = []
+ofTable k (u ∷ us) = elim (eqb (tableNumber k) (tableNumber (u .kind))) [ true ↦ u ∷ ofTable k us | false ↦ ofTable k us ]
 
--- 11, then 12 and 13 row by row, then 14, each table by table
-unfoldable pub faultBy : Test → Table → List ℕ → Option Fault
-faultBy Size table t = tooBig t
-faultBy Shape table t = rowsFault (shapeOf table) none 0 (rows t)
+-- a table of this kind, if it is among those in use
+unfoldable pub asUsed : {X : Type 0} → Purpose → TableKind → X → List (Used X)
+asUsed purpose k x = ofTable k (inUse purpose x x x)
 
-unfoldable pub eachFault : Test → Bool → Bool → List ℕ → List ℕ → List ℕ → Option TableFault
-eachFault test useL useP A L P =
-    firstTable (inTableIf true 1 (faultBy test Aliases A)) (firstTable (inTableIf useL 2 (faultBy test Likely L)) (inTableIf useP 3 (faultBy test Parents P)))
+-- whether there are any
+unfoldable pub anyUsed : {X : Type 0} → List (Used X) → Bool
+anyUsed [] = false
+anyUsed (u ∷ us) = true
 
-unfoldable pub clashesFault : Bool → Bool → List ℕ → List ℕ → List ℕ → Option TableFault
-clashesFault useL useP A L P =
-    let T = tablesOf A L P in
-    firstTable (inTableIf true 1 (clashFault (aliasFree T) 0 (rows A)))
-    (firstTable (inTableIf useL 2 (clashFault (likelyFree T) 0 (rows L))) (inTableIf useP 3 (clashFault (parentFree T) 0 (rows P))))
+-- whether tables of this kind are in use
+unfoldable pub isUsed : Purpose → TableKind → Bool
+isUsed purpose k = anyUsed {X = ℕ} (asUsed purpose k 0)
 
--- the tables that are used pass 12 and 13
-pub record Shaped (useL useP : Bool) (A L P : List ℕ) : Type 0 where
-  pub aliases : rowsFault (shapeOf Aliases) none 0 (rows A) ≡ none
-  pub likely : useL ≡ true → rowsFault (shapeOf Likely) none 0 (rows L) ≡ none
-  pub parents : useP ≡ true → rowsFault (shapeOf Parents) none 0 (rows P) ≡ none
+-- 11; 12 and 13
+unfoldable pub faultBy : Test → Used (List ℕ) → Option TableFault
+faultBy Size u = sizeFault u
+faultBy Shape u = shapeFault u
+
+-- 14 as the code tests it, over these aliases
+unfoldable pub clashBy : List ℕ → Used (List ℕ) → Option TableFault
+clashBy A u = inTable (tableNumber (u .kind)) (clashFault (freeRow (u .kind) A (u .lent)) 0 (rows (u .lent)))
+
+-- 14 of the tables in use
+abbrev pub clashesOf : Purpose → List ℕ → List ℕ → List ℕ → Option TableFault
+clashesOf purpose A L P = each (freeFault (tablesOf A L P)) (inUse purpose A L P)

@@ -1,5 +1,6 @@
 // Rows whose value has a subtag that aliases replace. Aliases are asked thousands of times whether a subtag is a key; hints
 // answer nearly all of that without a search.
+use aliases::keys::is_key;
 use row_shapes::aliases::AliasKind;
 ghost use mathlib.Core.Path.{_≡_};
 ghost use mathlib.Core.Bool.{true};
@@ -9,7 +10,6 @@ ghost use Rattle.standard.specs.Table.{pieces, parse, isThree, aliasShape};
 ghost use Rattle.table.specs.Hints.{Indexed};
 ghost use Rattle.row_shapes.specs.Shapes.{between};
 ghost use Rattle.table_check.specs.Free.{freeThree, ownTag, freeAlias, isThrees, secondOf};
-use aliases::keys::is_key;
 
 // What stands between the separator at a and the place b.
 fn part(s: &[u8], a: usize, b: usize) -> &[u8]
@@ -28,7 +28,7 @@ fn value_free(a: &[u8], hints: &[u16], value: &[u8]) -> bool
     requires { ⌜ Indexed (now a) (now hints) × (isThree (now value) ≡ true) ⌝ }
     ensures { λ r. ⌜ r ≡ freeThree (now (a .entry)) (parse (now (value .entry))) ⌝ }
 {
-    let t = row_shapes::three::ends_of(value);
+    let t = row_shapes::lsr::ends_of(value);
     let l = t.language;
     let e = t.script;
     if is_key(a, hints, AliasKind::Language, &value[..l]) {
@@ -57,7 +57,7 @@ fn own(kind: AliasKind, value: &[u8]) -> &[u8]
 }
 
 // Is the own subtag of an alias row's value no key of its kind?
-pub fn alias_free(a: &[u8], hints: &[u16], line: &[u8]) -> bool
+pub(crate) fn alias_free(a: &[u8], hints: &[u16], line: &[u8]) -> bool
     requires { ⌜ Indexed (now a) (now hints) × (aliasShape (pieces 9 (now line)) ≡ true) ⌝ }
     ensures { λ r. ⌜ r ≡ freeAlias (now (a .entry)) (pieces 9 (now (line .entry))) ⌝ }
 {
@@ -70,7 +70,7 @@ pub fn alias_free(a: &[u8], hints: &[u16], line: &[u8]) -> bool
 }
 
 // Has the value of a likely or parent row nothing that aliases replace?
-pub fn two_free(a: &[u8], hints: &[u16], line: &[u8]) -> bool
+pub(crate) fn two_free(a: &[u8], hints: &[u16], line: &[u8]) -> bool
     requires { ⌜ Indexed (now a) (now hints) × (isThrees (pieces 9 (now line)) ≡ true) ⌝ }
     ensures { λ r. ⌜ r ≡ freeThree (now (a .entry)) (parse (secondOf (pieces 9 (now (line .entry))))) ⌝ }
 {

@@ -3,7 +3,6 @@
 use program_io::buffer;
 use program_io::load;
 use program_io::print_table;
-use table_check::Verdict;
 
 fn main() {
     let mut a = buffer();
@@ -12,13 +11,6 @@ fn main() {
     let a_len = load(b"aliases.tsv", &mut a);
     let l_len = load(b"likely.tsv", &mut l);
     let p_len = load(b"parents.tsv", &mut p);
-    let v = table_check::check(&a[..a_len], &l[..l_len], &p[..p_len]);
-    match v {
-        Verdict::Good => {
-            print_table(0, 0, 0);
-        }
-        Verdict::Bad(number, table, place) => {
-            print_table(number, table, place);
-        }
-    }
+    let v = altazhbey::check(&a[..a_len], &l[..l_len], &p[..p_len]);
+    print_table(v.number, v.place, v.table);
 }

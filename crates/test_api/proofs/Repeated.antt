@@ -12,14 +12,14 @@ use borrow.Author.Tests.{eq-eqb, ne-eqb}
 use Rattle.standard.specs.Delivery.{Bytes, Made, result, refusal, Given, given}
 use Rattle.standard.specs.Calls.{canonicalise, maximise, minimise}
 use Rattle.standard.specs.Reading.{read}
-use Rattle.standard.specs.Table.{tablesOf, check}
+use Rattle.standard.specs.Table.{tablesOf, check, toCanonicalise, toMaximise, toChain}
 use Rattle.standard.specs.Make.{make, chainFrom, canonicaliseMade, maximiseMade, minimiseMade, listMade, afterCheck}
-use Rattle.standard.proofs.Bytes.{true→T}
+use Rattle.standard.proofs.General.{true→T}
 use Rattle.table_check.specs.declared.Verdict.{Verdict}
 use Rattle.table_check.specs.declared.Verdict.the-variants.{Bad}
 use Rattle.table_check.specs.Verdicts.{verdictIs}
 use Rattle.operations.specs.declared.delivery.Answer.{Answer}
-use Rattle.operations.specs.Answer.{answerOf, refusedTable}
+use Rattle.operations.specs.Answer.{answerOf, refusedAnswer}
 use Rattle.operations.proofs.Delivers.{after-good, table-stands}
 use Rattle.operations.specs.Both.{operationOf}
 use Rattle.operations.proofs.CompleteChecked as likely
@@ -54,19 +54,19 @@ again m r r′ out o₁ o₂ e f = f ∙ (ap (given m) (ap (λ (g : Given). g .o
 
 -- The tables that an operation tests, and what it makes.
 module _ (o : ℕ) (A B : Bytes) where
-  pub check-0 : o ≡ 0 → checkFor o A B ≡ check false false A [] []
+  pub check-0 : o ≡ 0 → checkFor o A B ≡ check toCanonicalise A [] []
   unfolding checkFor
   check-0 e = rw (eq-eqb o 0 e)
 
-  pub check-1 : (o ≡ 0 → ⊥) → o ≡ 1 → checkFor o A B ≡ check true false A B []
+  pub check-1 : (o ≡ 0 → ⊥) → o ≡ 1 → checkFor o A B ≡ check toMaximise A B []
   unfolding checkFor
   check-1 h e = rw (ne-eqb o 0 h, eq-eqb o 1 e)
 
-  pub check-2 : (o ≡ 0 → ⊥) → (o ≡ 1 → ⊥) → o ≡ 2 → checkFor o A B ≡ check true false A B []
+  pub check-2 : (o ≡ 0 → ⊥) → (o ≡ 1 → ⊥) → o ≡ 2 → checkFor o A B ≡ check toMaximise A B []
   unfolding checkFor
   check-2 h k e = rw (ne-eqb o 0 h, ne-eqb o 1 k, eq-eqb o 2 e)
 
-  pub check-3 : (o ≡ 0 → ⊥) → (o ≡ 1 → ⊥) → (o ≡ 2 → ⊥) → checkFor o A B ≡ check false true A [] B
+  pub check-3 : (o ≡ 0 → ⊥) → (o ≡ 1 → ⊥) → (o ≡ 2 → ⊥) → checkFor o A B ≡ check toChain A [] B
   unfolding checkFor
   check-3 h k l = rw (ne-eqb o 0 h, ne-eqb o 1 k, ne-eqb o 2 l)
 
@@ -122,7 +122,7 @@ small-for o A B x = go (eqb o 0) (eqb o 1) (eqb o 2) refl refl refl
     go false false false e f g = rw (e, f, g) (list-small A B x)
 
 -- a table's refusal stands
-pub refused-for : {n t q : ℕ} (o : ℕ) (A B x out : Bytes) (v : Verdict) (a : Answer) (r : ℕ) → v ≡ Bad n t q → r ≡ packed a → a ≡ refusedTable v → verdictIs v ≡ checkFor o A B
+pub refused-for : {n q t : ℕ} (o : ℕ) (A B x out : Bytes) (v : Verdict) (a : Answer) (r : ℕ) → v ≡ Bad n q t → r ≡ packed a → a ≡ refusedAnswer n q t → verdictIs v ≡ checkFor o A B
     → unpacked r out ≡ given (madeFor o A B x) out
 unfolding Afters
 refused-for o A B x out v a r e p q f =

@@ -1,21 +1,20 @@
 // For tests and benchmarks only, not shipped: the lookup of one row, the check of the tables, reading and the operations
 // over tested tables, as numbers that a harness can call.
-ghost use mathlib.Core.Path.{_≡_};
-ghost use mathlib.Core.Bool.{true};
-ghost use Prim.Native.Nat.{_+_, _*_, _%_, _<_};
-ghost use Rattle.standard.specs.Table.{located, check as checkOf};
-ghost use Rattle.table.specs.Lines.{foundIs};
-ghost use Rattle.table.specs.Search.{Sorted};
-ghost use Rattle.table_check.specs.Verdicts.{verdictIs};
-ghost use Rattle.test_api.specs.Codes.{foundCode, faultCode};
+pub mod reads;
+pub mod repeats;
+
 use table::hints::few;
 use table::hints::fill_hints;
 use table::hints::find_hinted;
 use table::hints::many;
 use table_check::Verdict;
-
-pub mod reads;
-pub mod repeats;
+ghost use mathlib.Core.Path.{_≡_};
+ghost use Prim.Native.Nat.{_+_, _*_, _%_, _<_};
+ghost use Rattle.standard.specs.Table.{located, check as checkOf, toCheck};
+ghost use Rattle.table.specs.Lines.{foundIs};
+ghost use Rattle.table.specs.Search.{Sorted};
+ghost use Rattle.table_check.specs.Verdicts.{verdictIs};
+ghost use Rattle.test_api.specs.Codes.{foundCode, faultCode};
 
 // Bit 0: found; 1 to 31: where the value starts; 32 to 62: its length. All ones where these do not fit.
 #[no_mangle]
@@ -74,7 +73,7 @@ pub fn wide(b: u8) -> u64
 // Bits 0 to 7: the number; 8 to 15: the table; 16 to 31: the place.
 #[no_mangle]
 pub extern "C" fn probe_check(a: &[u8], l: &[u8], p: &[u8]) -> u64
-    ensures { λ r. ⌜ r ≡ faultCode (checkOf true true (now (a .entry)) (now (l .entry)) (now (p .entry))) ⌝ }
+    ensures { λ r. ⌜ r ≡ faultCode (checkOf toCheck (now (a .entry)) (now (l .entry)) (now (p .entry))) ⌝ }
 {
     code_verdict(table_check::check(a, l, p))
 }
@@ -84,7 +83,7 @@ fn code_verdict(v: Verdict) -> u64
 {
     match v {
         Verdict::Good => 0,
-        Verdict::Bad(number, table, place) => wide(number)
+        Verdict::Bad(number, place, table) => wide(number)
             + wide(table) * 256
             + (place % 65536) as u64 * 65536,
     }

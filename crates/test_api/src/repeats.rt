@@ -1,10 +1,10 @@
 // For benchmarks: an exported operation once and then so many times more over the tables that it tested, on the same
 // identifier and output. The answer is that of one call.
-use operations::canonicalise::canonicalise_tested;
-use operations::delivery::refused_table;
-use operations::complete::form_hinted;
-use operations::chain::chain_tested;
 use c_api::pack;
+use operations::canonicalise::canonicalise_tested;
+use operations::chain::chain_tested;
+use operations::complete::form_hinted;
+use operations::delivery::refuse;
 use table::hints::fill_hints;
 use table::hints::many;
 use table_check::Verdict;
@@ -43,7 +43,9 @@ fn once(
     out: &mut [u8],
 ) -> u64
     requires { ⌜ (checkFor operation (now aliases) (now other) ≡ none) × Hinted (now aliases) (now «alias_hints») × Hinted (now other) (now «other_hints») ⌝ }
-    ensures { λ r. ⌜ unpacked r (now (out .exit)) ≡ given (madeFor operation (now (aliases .entry)) (now (other .entry)) (now (id .entry))) (now (out .entry)) ⌝ }
+    ensures { λ r. let out′ = now (out .exit) in let aliases = now (aliases .entry) in let other = now (other .entry) in let id = now (id .entry) in
+        let out = now (out .entry) in
+        ⌜ unpacked r out′ ≡ given (madeFor operation aliases other id) out ⌝ }
 {
     if operation == 0 {
         return pack(canonicalise_tested(id, aliases, alias_hints, out));
@@ -71,7 +73,9 @@ fn repeated(
     times: u32,
 ) -> u64
     requires { ⌜ (checkFor operation (now aliases) (now other) ≡ none) × Hinted (now aliases) (now «alias_hints») × Hinted (now other) (now «other_hints») ⌝ }
-    ensures { λ r. ⌜ unpacked r (now (out .exit)) ≡ given (madeFor operation (now (aliases .entry)) (now (other .entry)) (now (id .entry))) (now (out .entry)) ⌝ }
+    ensures { λ r. let out′ = now (out .exit) in let aliases = now (aliases .entry) in let other = now (other .entry) in let id = now (id .entry) in
+        let out = now (out .entry) in
+        ⌜ unpacked r out′ ≡ given (madeFor operation aliases other id) out ⌝ }
 {
     let mut r = once(operation, id, aliases, alias_hints, other, other_hints, out);
     let mut k: u32 = 0;
@@ -92,12 +96,14 @@ pub extern "C" fn probe_repeat(
     out: &mut [u8],
     times: u32,
 ) -> u64
-    ensures { λ r. ⌜ unpacked r (now (out .exit)) ≡ given (madeFor operation (now (aliases .entry)) (now (other .entry)) (now (id .entry))) (now (out .entry)) ⌝ }
+    ensures { λ r. let out′ = now (out .exit) in let aliases = now (aliases .entry) in let other = now (other .entry) in let id = now (id .entry) in
+        let out = now (out .entry) in
+        ⌜ unpacked r out′ ≡ given (madeFor operation aliases other id) out ⌝ }
 {
     let v = check_for(operation, aliases, other);
-    let Verdict::Good = v else {
-        return pack(refused_table(v));
-    };
+    if let Verdict::Bad(number, place, table) = v {
+        return pack(refuse(number, place, table));
+    }
     let none = [0u16; 1];
     let empty = &none[..0];
     repeated(operation, id, aliases, empty, other, empty, out, times)
@@ -113,12 +119,14 @@ pub extern "C" fn probe_repeat_hinted(
     out: &mut [u8],
     times: u32,
 ) -> u64
-    ensures { λ r. ⌜ unpacked r (now (out .exit)) ≡ given (madeFor operation (now (aliases .entry)) (now (other .entry)) (now (id .entry))) (now (out .entry)) ⌝ }
+    ensures { λ r. let out′ = now (out .exit) in let aliases = now (aliases .entry) in let other = now (other .entry) in let id = now (id .entry) in
+        let out = now (out .entry) in
+        ⌜ unpacked r out′ ≡ given (madeFor operation aliases other id) out ⌝ }
 {
     let v = check_for(operation, aliases, other);
-    let Verdict::Good = v else {
-        return pack(refused_table(v));
-    };
+    if let Verdict::Bad(number, place, table) = v {
+        return pack(refuse(number, place, table));
+    }
     let mut a = many();
     fill_hints(aliases, &mut a);
     let mut o = many();

@@ -11,7 +11,7 @@ use lib.ListN.{length, drop, set, length-append, length-set}
 use lib.Seq.{sets, drop-cons, drop-set-lt, getD-set-same}
 use borrow.Author.Tests.{eq-eqb, ne-eqb}
 use Rattle.byte_string.proofs.Stores.{wrote-two}
-use Rattle.subtag.proofs.Walk.{le-or-lt}
+use Rattle.standard.proofs.General.{le-or-lt}
 use Rattle.tsv.specs.Fields.{Bytes, digitsOnto, decimal, field, askedOf, tableText}
 
 -- A number that is being written: the digits from `start` on, and what is left of it.
@@ -128,14 +128,14 @@ pub table-word : length (field (116 ∷ 97 ∷ 98 ∷ 108 ∷ 101 ∷ []) 9) ≡
 unfolding field
 table-word = refl
 
-pub table-written : (o o₁ o₂ o₃ o₄ : Bytes) (p q r e number table place : ℕ)
+pub table-written : (o o₁ o₂ o₃ o₄ : Bytes) (p q r e number place table : ℕ)
     → (p ≡ 0 + length (field (116 ∷ 97 ∷ 98 ∷ 108 ∷ 101 ∷ []) 9)) × (o₁ ≡ sets o 0 (field (116 ∷ 97 ∷ 98 ∷ 108 ∷ 101 ∷ []) 9))
     → (q ≡ p + length (field (decimal number) 9)) × (o₂ ≡ sets o₁ p (field (decimal number) 9))
     → (r ≡ q + length (field (decimal table) 9)) × (o₃ ≡ sets o₂ q (field (decimal table) 9))
     → (e ≡ r + length (field (decimal place) 10)) × (o₄ ≡ sets o₃ r (field (decimal place) 10))
-    → (e ≡ 0 + length (tableText number table place)) × (o₄ ≡ sets o 0 (tableText number table place))
+    → (e ≡ 0 + length (tableText number place table)) × (o₄ ≡ sets o 0 (tableText number place table))
 unfolding tableText
-table-written o o₁ o₂ o₃ o₄ p q r e number table place a b c d =
+table-written o o₁ o₂ o₃ o₄ p q r e number place table a b c d =
     let t = field (decimal table) 9 ++ field (decimal place) 10 in
     let w = wrote-two o₂ o₃ o₄ q r e (field (decimal table) 9) (field (decimal place) 10) t refl (c .0) (c .1) (d .0) (d .1) in
     let v = wrote-two o₁ o₂ o₄ p q e (field (decimal number) 9) t (field (decimal number) 9 ++ t) refl (b .0) (b .1) (w .0) (w .1) in

@@ -28,7 +28,7 @@ askedOf n x = cond (eqb n 2 || eqb n 3) (45 ∷ []) x
 
 -- 01, A set of examples: a bad table gives the one line `table`, number, table, place.
 unfoldable pub tableText : ℕ → ℕ → ℕ → Bytes
-tableText number table place =
+tableText number place table =
     field (116 ∷ 97 ∷ 98 ∷ 108 ∷ 101 ∷ []) 9 ++ (field (decimal number) 9 ++ (field (decimal table) 9 ++ field (decimal place) 10))
 
 unfoldable pub textIs : Text → Bytes

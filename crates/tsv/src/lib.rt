@@ -1,8 +1,10 @@
-// Rows of text as the programs print them: fields, each with the mark that ends it (a tab, or 0A at the last one).
+// Inner. Rows of text as the programs print them: fields, each with the mark that ends it (a tab, or 0A at the last
+// one).
 ghost use mathlib.Core.Path.{_≡_};
 ghost use Prim.Native.Nat.{_+_, _≤_, _<_};
 ghost use lib.ListN.{length, drop};
 ghost use lib.Seq.{sets};
+ghost use Rattle.byte_string.specs.Strings.{Writes, WritesWithin};
 ghost use Rattle.tsv.specs.Fields.{decimal, field, askedOf, tableText, textIs};
 
 // The digits of a number, from the index `start` on.
@@ -46,7 +48,7 @@ fn digits_of(n: usize) -> Digits
 // Writes src and the mark that ends it at the place at, and gives the next place.
 pub fn put(src: &[u8], mark: u8, out: &mut [u8], at: usize) -> usize
     requires { ⌜ at + length (now src) + 1 ≤ length (now out) ⌝ }
-    ensures { λ r. ⌜ (r ≡ at + length (field (now (src .entry)) mark)) × (now (out .exit) ≡ sets (now (out .entry)) at (field (now (src .entry)) mark)) ⌝ }
+    ensures { λ r. ⌜ Writes (now (out .entry)) at (field (now (src .entry)) mark) r (now (out .exit)) ⌝ }
 {
     let end = byte_string::put(src, out, at);
     out[end] = mark;
@@ -56,7 +58,7 @@ pub fn put(src: &[u8], mark: u8, out: &mut [u8], at: usize) -> usize
 // The same of the bytes of src from an index on.
 fn put_from(src: &[u8], from: usize, mark: u8, out: &mut [u8], at: usize) -> usize
     requires { ⌜ (from ≤ length (now src)) × (at + length (now src) + 1 ≤ length (now out) + from) ⌝ }
-    ensures { λ r. ⌜ (r ≡ at + length (field (drop from (now (src .entry))) mark)) × (now (out .exit) ≡ sets (now (out .entry)) at (field (drop from (now (src .entry))) mark)) ⌝ }
+    ensures { λ r. ⌜ Writes (now (out .entry)) at (field (drop from (now (src .entry))) mark) r (now (out .exit)) ⌝ }
 {
     put(&src[from..], mark, out, at)
 }
@@ -64,7 +66,7 @@ fn put_from(src: &[u8], from: usize, mark: u8, out: &mut [u8], at: usize) -> usi
 // The same of a number of one digit, with no room made for more.
 fn put_digit(n: usize, mark: u8, out: &mut [u8], at: usize) -> usize
     requires { ⌜ (n < 10) × (at + 2 ≤ length (now out)) ⌝ }
-    ensures { λ r. ⌜ (r ≡ at + length (field (decimal n) mark)) × (now (out .exit) ≡ sets (now (out .entry)) at (field (decimal n) mark)) × (r ≤ at + 2) ⌝ }
+    ensures { λ r. ⌜ WritesWithin (at + 2) (now (out .entry)) at (field (decimal n) mark) r (now (out .exit)) ⌝ }
 {
     out[at] = digit(n);
     out[at + 1] = mark;
@@ -74,7 +76,7 @@ fn put_digit(n: usize, mark: u8, out: &mut [u8], at: usize) -> usize
 // The same of a number.
 pub fn put_number(n: usize, mark: u8, out: &mut [u8], at: usize) -> usize
     requires { ⌜ at + 21 ≤ length (now out) ⌝ }
-    ensures { λ r. ⌜ (r ≡ at + length (field (decimal n) mark)) × (now (out .exit) ≡ sets (now (out .entry)) at (field (decimal n) mark)) × (r ≤ at + 21) ⌝ }
+    ensures { λ r. ⌜ WritesWithin (at + 21) (now (out .entry)) at (field (decimal n) mark) r (now (out .exit)) ⌝ }
 {
     if n < 10 {
         return put_digit(n, mark, out, at);
@@ -88,7 +90,7 @@ pub fn put_number(n: usize, mark: u8, out: &mut [u8], at: usize) -> usize
 // What was asked, or `-`.
 pub fn put_asked(number: u8, line: &[u8], out: &mut [u8], at: usize) -> usize
     requires { ⌜ (at + length (askedOf number (now line)) + 1 ≤ length (now out)) × (at + 2 ≤ length (now out)) ⌝ }
-    ensures { λ r. ⌜ (r ≡ at + length (field (askedOf number (now (line .entry))) 9)) × (now (out .exit) ≡ sets (now (out .entry)) at (field (askedOf number (now (line .entry))) 9)) ⌝ }
+    ensures { λ r. ⌜ Writes (now (out .entry)) at (field (askedOf number (now (line .entry))) 9) r (now (out .exit)) ⌝ }
 {
     if number == 2 {
         return put(b"-", 9, out, at);
@@ -100,9 +102,9 @@ pub fn put_asked(number: u8, line: &[u8], out: &mut [u8], at: usize) -> usize
 }
 
 // Writes the line of a bad table at the front of out.
-pub fn put_table(number: usize, table: usize, place: usize, out: &mut [u8]) -> usize
+pub fn put_table(number: usize, place: usize, table: usize, out: &mut [u8]) -> usize
     requires { ⌜ 80 ≤ length (now out) ⌝ }
-    ensures { λ r. ⌜ (r ≡ length (tableText number table place)) × (now (out .exit) ≡ sets (now (out .entry)) 0 (tableText number table place)) × (r ≤ 80) ⌝ }
+    ensures { λ r. ⌜ (r ≡ length (tableText number place table)) × (now (out .exit) ≡ sets (now (out .entry)) 0 (tableText number place table)) × (r ≤ 80) ⌝ }
 {
     let p = put(b"table", 9, out, 0);
     let q = put_number(number, 9, out, p);
@@ -117,10 +119,10 @@ fn room() -> [u8; 80]
 }
 
 // The line that a bad table gives: `table`, number, table, place.
-pub fn table_line(number: u8, table: u8, place: usize) -> Text
-    ensures { λ r. ⌜ (textIs r ≡ tableText number table place) × (r .len ≤ 80) ⌝ }
+pub fn table_line(number: u8, place: usize, table: u8) -> Text
+    ensures { λ r. ⌜ (textIs r ≡ tableText number place table) × (r .len ≤ 80) ⌝ }
 {
     let mut bytes = room();
-    let len = put_table(number as usize, table as usize, place, &mut bytes);
+    let len = put_table(number as usize, place, table as usize, &mut bytes);
     Text { bytes, len }
 }

@@ -1,4 +1,4 @@
--- `canonical::canonicalise` meets its contract. Assumes nothing.
+-- `altazhbey::canonicalise` meets its contract. Assumes nothing.
 use mathlib.Core.Path.{sym, ap, _∙_}
 use Rattle.standard.specs.Delivery.{Made, given}
 use Rattle.standard.specs.Make.{canonicaliseMade}
@@ -11,21 +11,20 @@ use Rattle.altazhbey.proofs.canonicalise.Tie as tie
 check-aliases-requires : tie.Need-check-aliases-requires
 check-aliases-requires c κs = search needs
 
-enum-told : tie.Need-enum-told
-enum-told c = search needs
+enum-known-v : tie.Need-enum-known-v
+enum-known-v c = search needs
 
-enum-told-2 : tie.Need-enum-told-2
-enum-told-2 c = search needs
-
-refused-table-requires : tie.Need-refused-table-requires
-refused-table-requires c κs = search needs
+refuse-requires : tie.Need-refuse-requires
+refuse-requires c κs = search needs
 
 returns : tie.Need-returns
 unfolding canonicaliseMade
 returns c =
-    let k = c .before .before .before in
-    let b = k .before .before .before .before in
-    delivers.table-stands (k .check-aliases .result) _ _ _ _ (c .before .enum-told2 .given .1) (c .refused-table .ensures) (k .check-aliases .ensures)
+    let k = c .before .before .before .before .check-aliases in
+    delivers.table-stands (k .result) _ _ _ _ (c .before .before .v .given .1) (c .refuse .ensures) (k .ensures)
+
+enum-told : tie.Need-enum-told
+enum-told c = search needs
 
 array-share-prefix-none : tie.Need-array-share-prefix-none
 array-share-prefix-none c = search needs
@@ -54,10 +53,10 @@ canonicalise-spec =
     tie.close
     (tie.spec
     check-aliases-requires
-    enum-told
-    enum-told-2
-    refused-table-requires
+    enum-known-v
+    refuse-requires
     returns
+    enum-told
     array-share-prefix-none
     slice-aggregate-canonicalise-tested
     canonicalise-tested-requires

@@ -1,4 +1,4 @@
--- `parents::whole::chain` meets its contract. Assumes nothing.
+-- `altazhbey::chain` meets its contract. Assumes nothing.
 use Rattle.standard.specs.Make.{listMade}
 use Rattle.operations.proofs.Delivers.{table-stands, table-good}
 use Rattle.operations.proofs.ChainChecked.{tested-chain, whole-answer}
@@ -9,20 +9,20 @@ use Rattle.altazhbey.proofs.chain.Tie as tie
 check-parents-requires : tie.Need-check-parents-requires
 check-parents-requires c κs = search needs
 
-enum-told : tie.Need-enum-told
-enum-told c = search needs
+enum-known-v : tie.Need-enum-known-v
+enum-known-v c = search needs
 
-enum-told-2 : tie.Need-enum-told-2
-enum-told-2 c = search needs
-
-refused-table-requires : tie.Need-refused-table-requires
-refused-table-requires c κs = search needs
+refuse-requires : tie.Need-refuse-requires
+refuse-requires c κs = search needs
 
 returns : tie.Need-returns
 unfolding listMade
 returns c =
-    let k = c .before .before .before .check-parents in
-    table-stands (k .result) _ _ _ _ (c .before .enum-told2 .given .1) (c .refused-table .ensures) (k .ensures)
+    let k = c .before .before .before .before .check-parents in
+    table-stands (k .result) _ _ _ _ (c .before .before .v .given .1) (c .refuse .ensures) (k .ensures)
+
+enum-told : tie.Need-enum-told
+enum-told c = search needs
 
 chain-tested-requires : tie.Need-chain-tested-requires
 chain-tested-requires c κs =
@@ -49,10 +49,10 @@ chain-spec =
     tie.close
     (tie.spec
     check-parents-requires
-    enum-told
-    enum-told-2
-    refused-table-requires
+    enum-known-v
+    refuse-requires
     returns
+    enum-told
     chain-tested-requires
     answer-requires
     same-length

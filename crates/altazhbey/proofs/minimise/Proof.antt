@@ -1,4 +1,4 @@
--- `likely::whole::minimise` meets its contract. Assumes nothing.
+-- `altazhbey::minimise` meets its contract. Assumes nothing.
 use mathlib.Core.Path.{ap, _∙_}
 use Rattle.standard.specs.Delivery.{Made, given}
 use Rattle.operations.proofs.CompleteChecked.{whole-minimised}

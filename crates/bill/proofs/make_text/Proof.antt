@@ -44,12 +44,12 @@ same-length c = search needs
 returns : tie.Need-returns
 returns c =
     let w = c .before .before .write in
-    let t = c .before .before .before .before .before .before .before .before .before .before .before .take-input in
+    let t = c .before .before .before .before .before .before .before .before .before .before .before .before .before .take-input in
+    let s = c .before .before .before .before .before .before .before .before .before .before .before .before .before .before .before .before .before .before .before .before .before .before .before .before in
     let h = t .ensures in
-    let s = c .before .before .before .before .before .before .before .before .before .before .before .before .before .before .before .before .before .before .before .before .before .before in
     let same : length (t .last .1 .1 .0) ≡ length (s .args .block .now) = t .kept .1 .1 .0 in
-    let room : 65536 ≤ length (t .last .1 .1 .0) = omega (arith, same, s .pre) in
-    (search needs, (h .0, text-made _ _ _ (t .result) _ _ (t .last .1 .1 .0) _ (w .result) (h .1) room (w .ensures)))
+    let room : 65536 ≤ length (t .last .1 .1 .0) = omega (arith, same, s .pre .0) in
+    (search needs, (h .0, record { read = h .1 .read; text = text-made _ _ _ (t .result .counts) _ _ (t .last .1 .1 .0) _ (w .result) (h .1 .held) room (w .ensures) }))
 
 pub make-text-spec : {M : Type 1} → statement M
 make-text-spec =

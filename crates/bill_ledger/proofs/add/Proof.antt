@@ -1,4 +1,4 @@
--- `ledger::add` meets its contract. Assumes nothing.
+-- `bill_ledger::add` meets its contract. Assumes nothing.
 use mathlib.Core.Path.{refl, sym, ap, _∙_}
 use native.Mathlib.Omega.{arith}
 use Rattle.bill_ledger.specs.Entries.{markOf}

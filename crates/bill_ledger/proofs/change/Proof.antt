@@ -1,4 +1,4 @@
--- `ledger::change` meets its contract. Assumes nothing.
+-- `bill_ledger::change` meets its contract. Assumes nothing.
 use Prim.Native.Nat.{_*_}
 use native.Mathlib.Omega.{arith}
 use lib.Bits.{bitOr}

@@ -1,11 +1,11 @@
--- `ledger::has_key` meets its contract. Assumes nothing.
+-- `bill_ledger::has_key` meets its contract. Assumes nothing.
 use mathlib.Core.Path.{_≡_, refl, sym, ap, _∙_}
 use mathlib.Core.Bool.{true}
 use Prim.Native.Nat.{ℕ, _+_}
 use native.Mathlib.Omega.{arith}
 use Rattle.standard.specs.Tag.{same}
 use Rattle.standard.specs.Delivery.{Bytes}
-use Rattle.standard.proofs.Bytes.{clash}
+use Rattle.standard.proofs.General.{clash}
 use Rattle.bill_ledger.specs.Places.{textAt}
 use Rattle.bill_ledger.proofs.Places.{key-part}
 use Rattle.bill_ledger.proofs.Changes.{hit-in, hit-out}

@@ -1,4 +1,4 @@
--- `ledger::insert` meets its contract. Assumes nothing.
+-- `bill_ledger::insert` meets its contract. Assumes nothing.
 use mathlib.Core.Path.{_≡_, sym, ap, _∙_}
 use Prim.Native.Nat.{suc, _+_}
 use native.Mathlib.Omega.{arith}

@@ -1,4 +1,4 @@
--- `ledger::insert_key` meets its contract. Assumes nothing.
+-- `bill_ledger::insert_key` meets its contract. Assumes nothing.
 use Prim.Native.Nat.{_*_}
 use native.Mathlib.Omega.{arith}
 use lib.ListN.{length, length-set}

@@ -1,4 +1,4 @@
--- `ledger::is_below` meets its contract. Assumes nothing.
+-- `bill_ledger::is_below` meets its contract. Assumes nothing.
 use mathlib.Core.Path.{sym, refl, ap, _∙_}
 use native.Mathlib.Omega.{arith}
 use Rattle.byte_string.specs.declared.Order.{Order}

@@ -1,4 +1,4 @@
--- `ledger::key_len` meets its contract. Assumes nothing.
+-- `bill_ledger::key_len` meets its contract. Assumes nothing.
 use mathlib.Core.Path.{sym, _∙_}
 use native.Mathlib.Omega.{arith}
 use Rattle.bill_ledger.proofs.Moves.{short, long}

@@ -1,4 +1,4 @@
--- `ledger::mark_of` meets its contract. Assumes nothing.
+-- `bill_ledger::mark_of` meets its contract. Assumes nothing.
 use mathlib.Core.Path.{_∙_}
 use Prim.Native.Nat.{_-_, _^_}
 use native.Mathlib.Nat.{one-mul}

@@ -1,4 +1,4 @@
--- `ledger::move_counts` meets its contract. Assumes nothing.
+-- `bill_ledger::move_counts` meets its contract. Assumes nothing.
 use Prim.Native.Nat.{_≤_}
 use native.Mathlib.Omega.{arith}
 use Rattle.bill_ledger.specs.Places.{Moving}

@@ -1,4 +1,4 @@
--- `ledger::place_of` meets its contract. Assumes nothing.
+-- `bill_ledger::place_of` meets its contract. Assumes nothing.
 use mathlib.Core.Path.{sym, _∙_}
 use Prim.Native.Nat.{_-_, _≤_}
 use native.Mathlib.Omega.{arith}

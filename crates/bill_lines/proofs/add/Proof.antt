@@ -1,4 +1,4 @@
--- `month::add` meets its contract. Assumes nothing.
+-- `bill_lines::add` meets its contract. Assumes nothing.
 use mathlib.Core.Path.{refl}
 use borrow.Author.Tests.{not-true, not-false}
 use Rattle.operations.proofs.Delivers.{table-good}

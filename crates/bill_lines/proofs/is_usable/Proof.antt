@@ -1,4 +1,4 @@
--- `month::is_usable` meets its contract. Assumes nothing.
+-- `bill_lines::is_usable` meets its contract. Assumes nothing.
 use mathlib.Core.Path.{refl}
 use native.Mathlib.Omega.{arith}
 use borrow.Author.Tests.{le-leb, leb-true}

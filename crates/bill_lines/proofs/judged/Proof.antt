@@ -1,4 +1,4 @@
--- `month::judged` meets its contract. Assumes nothing.
+-- `bill_lines::judged` meets its contract. Assumes nothing.
 use mathlib.Core.Path.{sym, ap, _∙_}
 use Rattle.bill_lines.specs.Held.{judgedBy}
 use borrow.Author.Needs.{needs}

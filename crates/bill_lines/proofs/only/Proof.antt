@@ -1,4 +1,4 @@
--- `month::only` meets its contract. Assumes nothing.
+-- `bill_lines::only` meets its contract. Assumes nothing.
 use mathlib.Core.Path.{refl}
 use Rattle.bill_lines.specs.State.{only}
 use Rattle.bill_lines.proofs.only.Statement.{statement}

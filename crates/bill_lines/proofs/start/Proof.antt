@@ -1,4 +1,4 @@
--- `month::start` meets its contract. Assumes nothing.
+-- `bill_lines::start` meets its contract. Assumes nothing.
 use Rattle.bill_lines.proofs.Helds.{held-start}
 use borrow.Author.Needs.{needs}
 use Rattle.bill_lines.proofs.start.Statement.{statement}

@@ -1,4 +1,4 @@
--- `subtag::compare` meets its contract. Assumes nothing.
+-- `byte_string::compare` meets its contract. Assumes nothing.
 use mathlib.Core.Path.{_≡_, sym, _∙_}
 use Prim.Native.Nat.{_-_}
 use lib.ListN.{length}

@@ -1,4 +1,4 @@
--- `table::end_of` meets its contract. Assumes nothing.
+-- `byte_string::end_of` meets its contract. Assumes nothing.
 use mathlib.Core.Path.{_≡_, refl, sym, _∙_}
 use Prim.Native.Nat.{_-_}
 use lib.ListN.{length}

@@ -1,4 +1,4 @@
--- `subtag::put` meets its contract. Assumes nothing.
+-- `byte_string::put` meets its contract. Assumes nothing.
 use native.Mathlib.Omega.{arith}
 use mathlib.Core.Path.{_≡_, refl, _∙_}
 use Prim.Native.Nat.{_+_, _-_, _≤_}

@@ -1,4 +1,4 @@
--- `subtag::same` meets its contract. Assumes nothing.
+-- `byte_string::same` meets its contract. Assumes nothing.
 use mathlib.Core.Path.{ap}
 use Rattle.byte_string.specs.Strings.{orderOf}
 use Rattle.byte_string.proofs.Orders.{same-order}

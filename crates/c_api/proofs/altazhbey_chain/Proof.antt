@@ -1,4 +1,4 @@
--- `store::altazhbey_chain` meets its contract. Assumes nothing.
+-- `c_api::altazhbey_chain` meets its contract. Assumes nothing.
 use Rattle.c_api.proofs.Sizes.{list-small}
 use Rattle.c_api.proofs.Packs.{unpacks}
 use borrow.Author.Needs.{needs}

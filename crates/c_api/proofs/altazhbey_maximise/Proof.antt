@@ -1,4 +1,4 @@
--- `store::altazhbey_maximise` meets its contract. Assumes nothing.
+-- `c_api::altazhbey_maximise` meets its contract. Assumes nothing.
 use Rattle.c_api.proofs.Sizes.{maximise-small}
 use Rattle.c_api.proofs.Packs.{unpacks}
 use borrow.Author.Needs.{needs}

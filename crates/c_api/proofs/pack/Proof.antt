@@ -1,4 +1,4 @@
--- `store::pack` meets its contract. Assumes nothing.
+-- `c_api::pack` meets its contract. Assumes nothing.
 use Rattle.c_api.specs.Packed.{packed}
 use borrow.Author.Needs.{needs}
 use Rattle.c_api.proofs.pack.Statement.{statement}

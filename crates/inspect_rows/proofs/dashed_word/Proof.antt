@@ -1,4 +1,4 @@
--- `inspection::dashed_word` meets its contract. Assumes nothing.
+-- `inspect_rows::dashed_word` meets its contract. Assumes nothing.
 use borrow.Author.Needs.{needs}
 use native.Mathlib.Omega.{arith}
 use mathlib.Core.Path.{_≡_}

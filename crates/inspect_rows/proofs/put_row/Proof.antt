@@ -1,4 +1,4 @@
--- `inspection::put_row` meets its contract. Assumes nothing.
+-- `inspect_rows::put_row` meets its contract. Assumes nothing.
 use native.Mathlib.Omega.{arith}
 use Rattle.byte_string.proofs.Stores.{wrote-two}
 use Rattle.reader.specs.Words.{reportIs}

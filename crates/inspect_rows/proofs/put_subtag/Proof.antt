@@ -1,4 +1,4 @@
--- `inspection::put_subtag` meets its contract. Assumes nothing.
+-- `inspect_rows::put_subtag` meets its contract. Assumes nothing.
 use borrow.Author.Needs.{needs}
 use Rattle.inspect_rows.proofs.put_subtag.Statement.{statement}
 use Rattle.inspect_rows.proofs.put_subtag.Tie as tie

@@ -1,4 +1,4 @@
--- `inspection::put_two` meets its contract. Assumes nothing.
+-- `inspect_rows::put_two` meets its contract. Assumes nothing.
 use native.Mathlib.Omega.{arith}
 use mathlib.Core.Path.{refl}
 use Rattle.byte_string.proofs.Stores.{wrote-two}

@@ -1,4 +1,4 @@
--- `inspection::put_word` meets its contract. Assumes nothing.
+-- `inspect_rows::put_word` meets its contract. Assumes nothing.
 use native.Mathlib.Omega.{arith}
 use mathlib.Core.Path.{_≡_, sym}
 use lib.ListN.{length, take}

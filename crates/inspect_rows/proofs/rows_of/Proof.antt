@@ -1,4 +1,4 @@
--- `inspection::rows_of` meets its contract. Assumes nothing.
+-- `inspect_rows::rows_of` meets its contract. Assumes nothing.
 use native.Mathlib.Omega.{arith}
 use Prim.Native.Nat.{_-_}
 use lib.ListN.{length}

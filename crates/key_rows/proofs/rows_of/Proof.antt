@@ -10,20 +10,17 @@ use Rattle.key_rows.proofs.rows_of.Tie as tie
 check-likely-requires : tie.Need-check-likely-requires
 check-likely-requires c κs = search needs
 
-enum-told : tie.Need-enum-told
-enum-told c = search needs
-
-enum-told-2 : tie.Need-enum-told-2
-enum-told-2 c = search needs
-
-refused-table-requires : tie.Need-refused-table-requires
-refused-table-requires c κs = search needs
+enum-known-v : tie.Need-enum-known-v
+enum-known-v c = search needs
 
 returns : tie.Need-returns
 returns c =
     let k = c .before .before .before in
     let a = k .before .before .before .before .before .args in
-    (laws.table-given (a .aliases .now) (a .likely .now) (a .piece .now) (a .out .now) (k .check-likely .result) (c .refused-table .result) (c .before .enum-told2 .given .1) (c .refused-table .ensures) (k .check-likely .ensures), omega arith, omega arith)
+    (laws.table-given (a .aliases .now) (a .likely .now) (a .piece .now) (a .out .now) (k .check-likely .result) (c .before .v .given .1) (k .check-likely .ensures), omega arith, omega arith)
+
+enum-told : tie.Need-enum-told
+enum-told c = search needs
 
 rows-tested-requires : tie.Need-rows-tested-requires
 rows-tested-requires c κs =
@@ -41,10 +38,9 @@ rows-of-spec =
     tie.close
     (tie.spec
     check-likely-requires
-    enum-told
-    enum-told-2
-    refused-table-requires
+    enum-known-v
     returns
+    enum-told
     rows-tested-requires
     same-length
     returns-2)

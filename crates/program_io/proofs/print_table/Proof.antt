@@ -1,4 +1,4 @@
--- `opener::print_table` meets its contract. Assumes nothing.
+-- `program_io::print_table` meets its contract. Assumes nothing.
 use native.Mathlib.Omega.{arith}
 use mathlib.Core.Path.{_≡_, sym}
 use lib.ListN.{length}

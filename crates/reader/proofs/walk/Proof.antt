@@ -22,15 +22,15 @@ Inv-walk id listed₀ count₀ set₀ st₀ parts₀ back₀ at₀ listed count 
 abbrev μ-walk : tie.MeasureT-walk
 μ-walk id listed₀ count₀ set₀ st₀ parts₀ back₀ at₀ listed count set st parts back at = suc (length id) - at
 
--- what the judge, the transition and the verdict say of the subtag at hand
+-- what the scan, the transition and the verdict say of the subtag at hand
 told-at : (c : tie.After-verdict-of Inv-loop μ-loop Inv-walk μ-walk)
-    → loop.Told (c .before .before .before .before .before .before .before .before .args .id .now) (c .before .before .before .before .walk .at) (c .before .before .judge .result) (c .before .before .before .before .walk .st) (c .before .step .result) (c .verdict-of .result)
-told-at c = loop.told _ _ _ _ _ _ (c .before .before .judge .ensures) (c .before .step .ensures) (c .verdict-of .ensures)
+    → loop.Told (c .before .before .before .before .before .before .before .before .args .id .now) (c .before .before .before .before .walk .at) (c .before .before .scan .result) (c .before .before .before .before .walk .st) (c .before .step .result) (c .verdict-of .result)
+told-at c = loop.told _ _ _ _ _ _ (c .before .before .scan .ensures) (c .before .step .ensures) (c .verdict-of .ensures)
 
 -- where the arms meet
 joined : (c : tie.At-match-came Inv-loop μ-loop Inv-walk μ-walk)
     → loop.Behind (c .before .before .before .before .before .before .before .before .before .args .id .now) (c .match .listed) (c .match .count) (c .match .set) (c .before .before .before .before .before .walk .parts)
-    (c .before .before .before .before .before .walk .at) (c .before .before .before .judge .result) (c .before .before .step .result)
+    (c .before .before .before .before .before .walk .at) (c .before .before .before .scan .result) (c .before .before .step .result)
 joined c =
     ⊎-elim
     (λ w. rw (w .6, w .7, w .8) (loop.behind-new _ _ _ _ _ _ _ _ (c .before .before .before .before .before .walk .inv) _ _ _ (told-at (c .before)) (w .1 .given .1) _ (w .2 .ensures) _ (w .4 .given .1)))
@@ -49,17 +49,17 @@ unread-requires c κs = search needs
 walk-holds : tie.Need-walk-holds Inv-loop μ-loop Inv-walk μ-walk
 walk-holds c = loop.walking-start _ _ (c .before .before .before .pre) (c .before .no-keys .ensures) _ (c .unread .ensures)
 
-sub-judge : tie.Need-sub-judge Inv-loop μ-loop Inv-walk μ-walk
-sub-judge c = omega arith
+sub-scan : tie.Need-sub-scan Inv-loop μ-loop Inv-walk μ-walk
+sub-scan c = omega arith
 
-part-judge-start : tie.Need-part-judge-start Inv-loop μ-loop Inv-walk μ-walk
-part-judge-start c = search needs
+part-scan-start : tie.Need-part-scan-start Inv-loop μ-loop Inv-walk μ-walk
+part-scan-start c = search needs
 
-part-judge-end : tie.Need-part-judge-end Inv-loop μ-loop Inv-walk μ-walk
-part-judge-end c = search needs
+part-scan-end : tie.Need-part-scan-end Inv-loop μ-loop Inv-walk μ-walk
+part-scan-end c = search needs
 
-judge-requires : tie.Need-judge-requires Inv-loop μ-loop Inv-walk μ-walk
-judge-requires c κs = search needs
+scan-requires : tie.Need-scan-requires Inv-loop μ-loop Inv-walk μ-walk
+scan-requires c κs = search needs
 
 step-requires : tie.Need-step-requires Inv-loop μ-loop Inv-walk μ-walk
 step-requires c κs = search needs
@@ -173,10 +173,10 @@ walk-spec =
     no-keys-requires
     unread-requires
     walk-holds
-    sub-judge
-    part-judge-start
-    part-judge-end
-    judge-requires
+    sub-scan
+    part-scan-start
+    part-scan-end
+    scan-requires
     step-requires
     verdict-of-requires
     enum-told

@@ -19,26 +19,26 @@ abbrev μ-loop : tie.MeasureT-loop
 μ-loop id at₀ at = suc (length id) - at
 
 -- the length of the subtag at hand
-length-at : (c : tie.After-judge Inv-loop μ-loop) → c .judge .result .len ≡ length (headTag (split (drop (c .before .before .loop .at) (c .before .before .before .before .args .id .now))))
+length-at : (c : tie.After-scan Inv-loop μ-loop) → c .scan .result .len ≡ length (headTag (split (drop (c .before .before .loop .at) (c .before .before .before .before .args .id .now))))
 length-at c =
     let s = c .before .before .before .before .args .id .now in
     let at = c .before .before .loop .at in
-    judged-len (headTag (split (drop at s))) (c .judge .result) (judged s at (c .judge .result) (c .judge .ensures))
+    judged-len (headTag (split (drop at s))) (c .scan .result) (judged s at (c .scan .result) (c .scan .ensures))
 
 loop-holds : tie.Need-loop-holds Inv-loop μ-loop
 loop-holds c = (omega arith, refl)
 
-sub-judge : tie.Need-sub-judge Inv-loop μ-loop
-sub-judge c = omega arith
+sub-scan : tie.Need-sub-scan Inv-loop μ-loop
+sub-scan c = omega arith
 
-part-judge-start : tie.Need-part-judge-start Inv-loop μ-loop
-part-judge-start c = search needs
+part-scan-start : tie.Need-part-scan-start Inv-loop μ-loop
+part-scan-start c = search needs
 
-part-judge-end : tie.Need-part-judge-end Inv-loop μ-loop
-part-judge-end c = search needs
+part-scan-end : tie.Need-part-scan-end Inv-loop μ-loop
+part-scan-end c = search needs
 
-judge-requires : tie.Need-judge-requires Inv-loop μ-loop
-judge-requires c κs = search needs
+scan-requires : tie.Need-scan-requires Inv-loop μ-loop
+scan-requires c κs = search needs
 
 returns : tie.Need-returns Inv-loop μ-loop
 unfolding foundAs
@@ -74,10 +74,10 @@ wrong-size-spec =
     Inv-loop
     μ-loop
     loop-holds
-    sub-judge
-    part-judge-start
-    part-judge-end
-    judge-requires
+    sub-scan
+    part-scan-start
+    part-scan-end
+    scan-requires
     returns
     returns-2
     sub-if3

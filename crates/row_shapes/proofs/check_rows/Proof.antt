@@ -1,4 +1,4 @@
--- `rows::check_rows` meets its contract. The invariant: the rows from i on, behind the key t[p..k], decide. Assumes nothing.
+-- `row_shapes::check_rows` meets its contract. The invariant: the rows from i on, behind the key t[p..k], decide. Assumes nothing.
 use borrow.Author.Needs.{needs}
 use native.Mathlib.Omega.{arith}
 use borrow.Author.Tests.{not-true, not-false}
@@ -7,15 +7,15 @@ use mathlib.Core.Option.{none}
 use mathlib.Core.List.{[]}
 use Prim.Native.Nat.{_+_, _-_, _≤_, _<_}
 use lib.ListN.{length, take, drop}
-use Rattle.standard.specs.Table.{pieces, rows, rowsFault}
-use Rattle.row_shapes.specs.Rows.{shapeOf}
+use Rattle.standard.specs.Table.{pieces, rows, rowsFault, shapeOf}
+use Rattle.row_shapes.specs.Rows.{kindIs}
 use Rattle.row_shapes.proofs.Passes as passes
 use Rattle.row_shapes.proofs.Texts.{RowIn, row-in, row-off, next-row}
 use Rattle.row_shapes.proofs.check_rows.Statement.{statement}
 use Rattle.row_shapes.proofs.check_rows.Tie as tie
 
 abbrev Inv-loop : tie.InvT-loop
-Inv-loop t table n i₀ p₀ k₀ i p k = (p ≤ k) × (k ≤ length t) × (rowsFault (shapeOf table) none 0 (rows t) ≡ rowsFault (shapeOf table) (passes.lastOf (take (k - p) (drop p t))) i (pieces 10 (drop i t)))
+Inv-loop t table n i₀ p₀ k₀ i p k = (p ≤ k) × (k ≤ length t) × (rowsFault (shapeOf (kindIs table)) none 0 (rows t) ≡ rowsFault (shapeOf (kindIs table)) (passes.lastOf (take (k - p) (drop p t))) i (pieces 10 (drop i t)))
 
 abbrev μ-loop : tie.MeasureT-loop
 μ-loop t table n i₀ p₀ k₀ i p k = length t - i

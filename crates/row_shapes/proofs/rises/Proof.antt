@@ -1,4 +1,4 @@
--- `rows::rises` meets its contract. Assumes nothing.
+-- `row_shapes::rises` meets its contract. Assumes nothing.
 use mathlib.Core.Path.{ap}
 use Rattle.byte_string.specs.Strings.{orderOf}
 use Rattle.row_shapes.proofs.Passes.{rises-is}

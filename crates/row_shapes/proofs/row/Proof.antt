@@ -1,4 +1,4 @@
--- `rows::row` meets its contract. Assumes nothing.
+-- `row_shapes::row` meets its contract. Assumes nothing.
 use borrow.Author.Needs.{needs}
 use Rattle.row_shapes.proofs.Texts.{line-as}
 use Rattle.row_shapes.proofs.row.Statement.{statement}

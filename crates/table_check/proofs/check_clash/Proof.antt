@@ -1,21 +1,20 @@
--- `verdict::check_clash` meets its contract. The invariant: the rows from i on have their shape, and decide. Assumes nothing.
+-- `table_check::check_clash` meets its contract. The invariant: the rows from i on have their shape, and decide. Assumes nothing.
 use borrow.Author.Needs.{needs}
 use native.Mathlib.Omega.{arith}
 use borrow.Author.Tests.{not-true, not-false}
 use mathlib.Core.Path.{_≡_, refl, sym, _∙_}
 use Prim.Native.Nat.{_-_}
 use lib.ListN.{length, drop}
-use Rattle.standard.specs.Table.{pieces, rows, clashFault}
-use Rattle.standard.proofs.Table.{Pass}
+use Rattle.standard.specs.Table.{pieces, rows, clashFault, shapeOf, Pass}
 use Rattle.byte_string.proofs.Ends.{Ends, ends}
-use Rattle.row_shapes.specs.Rows.{shapeOf}
+use Rattle.row_shapes.specs.Rows.{kindIs}
 use Rattle.table_check.specs.Free.{freeRow}
 use Rattle.table_check.proofs.Clashes.{pass-row, clash-here, clash-next, clash-end}
 use Rattle.table_check.proofs.check_clash.Statement.{statement}
 use Rattle.table_check.proofs.check_clash.Tie as tie
 
 abbrev Inv-loop : tie.InvT-loop
-Inv-loop a hints t own table i₀ i = Pass (shapeOf table) (pieces 10 (drop i t)) × (clashFault (freeRow table a t) 0 (rows t) ≡ clashFault (freeRow table a t) i (pieces 10 (drop i t)))
+Inv-loop a hints t own table i₀ i = Pass (shapeOf (kindIs table)) (pieces 10 (drop i t)) × (clashFault (freeRow (kindIs table) a t) 0 (rows t) ≡ clashFault (freeRow (kindIs table) a t) i (pieces 10 (drop i t)))
 
 abbrev μ-loop : tie.MeasureT-loop
 μ-loop a hints t own table i₀ i = length t - i

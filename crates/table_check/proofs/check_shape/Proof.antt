@@ -1,14 +1,11 @@
--- `verdict::check_shape` meets its contract. Assumes nothing.
-use borrow.Author.Tests.{not-true, not-false}
+-- `table_check::check_shape` meets its contract. Assumes nothing.
 use mathlib.Core.Path.{sym, ap, _∙_}
+use Rattle.standard.specs.Table.{shapeFault}
 use Rattle.row_shapes.specs.Rows.{faultIs}
-use Rattle.table_check.proofs.Ordered.{unused, in-none, in-some}
+use Rattle.table_check.proofs.Ordered.{in-none, in-some}
 use borrow.Author.Needs.{needs}
 use Rattle.table_check.proofs.check_shape.Statement.{statement}
 use Rattle.table_check.proofs.check_shape.Tie as tie
-
-returns : tie.Need-returns
-returns c = unused _ _ _ (not-true _ (c .if1 .taken))
 
 check-rows-requires : tie.Need-check-rows-requires
 check-rows-requires c κs = search needs
@@ -28,34 +25,32 @@ enum-known-r-2 c = search needs
 number-requires-2 : tie.Need-number-requires-2
 number-requires-2 c κs = search needs
 
+returns : tie.Need-returns
+unfolding shapeFault
+returns c = in-none _ _ (sym (ap faultIs (c .enum-told .given .1)) ∙ c .before .before .check-rows .ensures)
+
 returns-2 : tie.Need-returns-2
+unfolding shapeFault
 returns-2 c =
-    let r = c .before .before in
-    in-none _ _ _ (not-false _ (r .before .if1 .left)) (sym (ap faultIs (c .enum-told .given .1)) ∙ r .check-rows .ensures)
+    let g = c .before .before .r .given in
+    in-some _ _ 12 (g .0 .0) _ (sym (ap faultIs (g .1)) ∙ c .before .before .before .before .check-rows .ensures) (c .number .ensures)
 
 returns-3 : tie.Need-returns-3
+unfolding shapeFault
 returns-3 c =
-    let g = c .before .before .r .given in
-    let r = c .before .before .before .before in
-    in-some _ _ _ 12 (g .0 .0) _ (not-false _ (r .before .if1 .left)) (sym (ap faultIs (g .1)) ∙ r .check-rows .ensures) (c .number .ensures)
-
-returns-4 : tie.Need-returns-4
-returns-4 c =
     let g = c .before .before .r2 .given in
-    let r = c .before .before .before .before in
-    in-some _ _ _ 13 (g .0 .0) _ (not-false _ (r .before .if1 .left)) (sym (ap faultIs (g .1)) ∙ r .check-rows .ensures) (c .number2 .ensures)
+    in-some _ _ 13 (g .0 .0) _ (sym (ap faultIs (g .1)) ∙ c .before .before .before .before .check-rows .ensures) (c .number2 .ensures)
 
 pub check-shape-spec : {M : Type 1} → statement M
 check-shape-spec =
     tie.close
     (tie.spec
-    returns
     check-rows-requires
     enum-told
     enum-known-r
     number-requires
     enum-known-r-2
     number-requires-2
+    returns
     returns-2
-    returns-3
-    returns-4)
+    returns-3)

@@ -1,19 +1,18 @@
--- `verdict::check_walks` meets its contract. Assumes nothing.
-use mathlib.Core.Path.{_≡_}
-use mathlib.Core.Bool.{true}
-use borrow.Author.Tests.{not-true, not-false}
-use Rattle.row_shapes.specs.Rows.{shapeOf}
+-- `table_check::check_walks` meets its contract. Assumes nothing.
+use mathlib.Core.Path.{sym, _∙_}
+use borrow.Author.Tests.{not-true}
+use Rattle.row_shapes.specs.Rows.{kindIs}
 use Rattle.table_check.proofs.Ordered.{unused}
 use borrow.Author.Needs.{needs}
 use Rattle.table_check.proofs.check_walks.Statement.{statement}
 use Rattle.table_check.proofs.check_walks.Tie as tie
 
-returns : tie.Need-returns
-returns c = unused _ _ _ (not-true _ (c .if1 .taken))
+uses-requires : tie.Need-uses-requires
+uses-requires c κs = search needs
 
--- the parents are used
-used : (c : tie.Else1) → c .before .before .before .before .args .used ≡ true
-used c = not-false _ (c .if1 .left)
+returns : tie.Need-returns
+unfolding kindIs
+returns c = unused _ _ _ _ (sym (c .before .uses .ensures) ∙ not-true _ (c .if1 .taken))
 
 few-requires : tie.Need-few-requires
 few-requires c κs = search needs
@@ -28,14 +27,14 @@ slice-aggregate-check-free : tie.Need-slice-aggregate-check-free
 slice-aggregate-check-free c = search needs
 
 check-free-requires : tie.Need-check-free-requires
-unfolding shapeOf
+unfolding kindIs
 check-free-requires c κs =
-    let i = c .before .before .before .before .before .before in
-    let p = i .before .before .before .before .pre in
-    (p .0, λ _. p .1 (used i), c .before .before .fill-hints .ensures)
+    let p = c .before .before .before .before .before .before .before .before .before .before .before .pre in
+    (p .0, p .1, c .before .before .fill-hints .ensures)
 
 returns-2 : tie.Need-returns-2
-returns-2 c = rw (used (c .before .before .before .before .before .before .before)) (c .check-free .ensures)
+unfolding kindIs
+returns-2 c = c .check-free .ensures
 
 many-requires : tie.Need-many-requires
 many-requires c κs = search needs
@@ -50,19 +49,20 @@ slice-aggregate-check-free-2 : tie.Need-slice-aggregate-check-free-2
 slice-aggregate-check-free-2 c = search needs
 
 check-free-requires-2 : tie.Need-check-free-requires-2
-unfolding shapeOf
+unfolding kindIs
 check-free-requires-2 c κs =
-    let i = c .before .before .before .before .before .before in
-    let p = i .before .before .before .before .pre in
-    (p .0, λ _. p .1 (used i), c .before .before .fill-hints2 .ensures)
+    let p = c .before .before .before .before .before .before .before .before .before .before .before .pre in
+    (p .0, p .1, c .before .before .fill-hints2 .ensures)
 
 returns-3 : tie.Need-returns-3
-returns-3 c = rw (used (c .before .before .before .before .before .before .before)) (c .check-free2 .ensures)
+unfolding kindIs
+returns-3 c = c .check-free2 .ensures
 
 pub check-walks-spec : {M : Type 1} → statement M
 check-walks-spec =
     tie.close
     (tie.spec
+    uses-requires
     returns
     few-requires
     slice-aggregate-fill-hints

@@ -1,6 +1,7 @@
--- `verdict::free` meets its contract, table by table. Assumes nothing.
+-- `table_check::free` meets its contract, table by table. Assumes nothing.
+use Rattle.standard.specs.Table.{shapeOf}
 use Rattle.row_shapes.specs.declared.Table.the-variants.{Aliases, Likely, Parents}
-use Rattle.row_shapes.specs.Rows.{shapeOf}
+use Rattle.row_shapes.specs.Rows.{kindIs}
 use Rattle.table_check.specs.Free.{freeRow}
 use Rattle.table_check.proofs.Clashes.{shape-is, pass-parents, free-by, likely-threes, parent-threes}
 use borrow.Author.Needs.{needs}
@@ -20,7 +21,7 @@ part-alias-free-end : tie.Need-part-alias-free-end
 part-alias-free-end c = search needs
 
 alias-free-requires : tie.Need-alias-free-requires
-unfolding shapeOf
+unfolding kindIs shapeOf
 alias-free-requires c κs =
     let e = c .before in
     let p = e .before .before .before .before .before .before .pre in
@@ -39,7 +40,7 @@ part-two-free-end : tie.Need-part-two-free-end
 part-two-free-end c = search needs
 
 two-free-requires : tie.Need-two-free-requires
-unfolding shapeOf
+unfolding kindIs shapeOf
 two-free-requires c κs =
     let e = c .before in
     let p = e .before .before .before .before .before .before .pre in
@@ -49,21 +50,21 @@ enum-told-3 : tie.Need-enum-told-3
 enum-told-3 c = search needs
 
 parent-free-requires : tie.Need-parent-free-requires
-unfolding shapeOf
+unfolding kindIs shapeOf
 parent-free-requires c κs =
     let p = c .before .before .before .before .before .before .pre in
     (p .0, p .1, pass-parents _ (c .enum-told3 .given .1) (p .2), p .3, p .4, parent-threes _ (shape-is Parents _ (c .enum-told3 .given .1) (p .5)), p .6)
 
 returns : tie.Need-returns
-unfolding freeRow
+unfolding kindIs freeRow
 returns c = free-by Aliases _ _ _ _ (c .before .before .enum-told .given .1) (c .alias-free .ensures)
 
 returns-2 : tie.Need-returns-2
-unfolding freeRow
+unfolding kindIs freeRow
 returns-2 c = free-by Likely _ _ _ _ (c .before .before .enum-told2 .given .1) (c .two-free .ensures)
 
 returns-3 : tie.Need-returns-3
-unfolding freeRow
+unfolding kindIs freeRow
 returns-3 c = free-by Parents _ _ _ _ (c .before .enum-told3 .given .1) (c .parent-free .ensures)
 
 pub free-spec : {M : Type 1} → statement M

@@ -1,11 +1,11 @@
--- `verdict::parent_free` meets its contract. Assumes nothing.
+-- `table_check::parent_free` meets its contract. Assumes nothing.
 use native.Mathlib.Omega.{arith}
 use borrow.Author.Tests.{not-true, not-false}
 use mathlib.Core.Path.{sym, ap, _∙_}
 use Prim.Native.Nat.{_-_, _≤_}
 use Rattle.parents.specs.Walk.{cut, reachesFrom}
 use Rattle.table_check.proofs.Clashes.{TwoLine, two-line, parent-value, parent-walk, own-row}
-use Rattle.parents.proofs.Walks.{key-cut, cut-size}
+use Rattle.parents.proofs.Walks.{cut-length as cut-size, cut-cut as key-cut}
 use borrow.Author.Needs.{needs}
 use Rattle.table_check.proofs.parent_free.Statement.{statement}
 use Rattle.table_check.proofs.parent_free.Tie as tie

@@ -1,4 +1,4 @@
--- `probe::code_found` meets its contract. Assumes nothing.
+-- `test_api::code_found` meets its contract. Assumes nothing.
 use Rattle.test_api.proofs.Coded.{far-start, far-len, is-found, not-found}
 use borrow.Author.Needs.{needs}
 use Rattle.test_api.proofs.code_found.Statement.{statement}

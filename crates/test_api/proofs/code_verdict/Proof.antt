@@ -1,4 +1,4 @@
--- `probe::code_verdict` meets its contract. Assumes nothing.
+-- `test_api::code_verdict` meets its contract. Assumes nothing.
 use mathlib.Core.Path.{sym, ap, ap₂, _∙_}
 use Prim.Native.Nat.{ℕ, _+_, _*_, _%_}
 use Rattle.table_check.specs.Verdicts.{verdictIs}
@@ -40,7 +40,7 @@ returns-2 : tie.Need-returns-2
 unfolding faultCode
 returns-2 c =
     let g = c .before .before .before .v .given in
-    ap₂ (λ (n t : ℕ). n + t * 256 + g .0 .1 .1 .0 % 65536 * 65536) (c .before .wide .ensures .0) (c .wide2 .ensures .0) ∙ sym (ap (λ (v : Verdict). faultCode (verdictIs v)) (g .1))
+    ap₂ (λ (n t : ℕ). n + t * 256 + g .0 .1 .0 % 65536 * 65536) (c .before .wide .ensures .0) (c .wide2 .ensures .0) ∙ sym (ap (λ (v : Verdict). faultCode (verdictIs v)) (g .1))
 
 pub code-verdict-spec : {M : Type 1} → statement M
 code-verdict-spec =

@@ -1,4 +1,4 @@
--- `probe::probe_hinted` meets its contract. Assumes nothing.
+-- `test_api::probe_hinted` meets its contract. Assumes nothing.
 use mathlib.Core.Path.{ap, _∙_}
 use Rattle.test_api.specs.Codes.{foundCode}
 use borrow.Author.Needs.{needs}

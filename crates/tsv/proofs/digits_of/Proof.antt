@@ -1,4 +1,4 @@
--- `fields::digits_of` meets its contract. Assumes nothing.
+-- `tsv::digits_of` meets its contract. Assumes nothing.
 use native.Mathlib.Omega.{arith}
 use mathlib.Core.Path.{refl}
 use borrow.Author.Needs.{needs}

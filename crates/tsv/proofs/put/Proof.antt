@@ -1,4 +1,4 @@
--- `fields::put` meets its contract. Assumes nothing.
+-- `tsv::put` meets its contract. Assumes nothing.
 use Rattle.tsv.proofs.Laws as laws
 use borrow.Author.Needs.{needs}
 use Rattle.tsv.proofs.put.Statement.{statement}

@@ -1,4 +1,4 @@
--- `fields::put_asked` meets its contract. Assumes nothing.
+-- `tsv::put_asked` meets its contract. Assumes nothing.
 use native.Mathlib.Omega.{arith}
 use mathlib.Core.Path.{ap}
 use lib.ListN.{length}

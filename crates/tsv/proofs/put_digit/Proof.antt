@@ -1,4 +1,4 @@
--- `fields::put_digit` meets its contract. Assumes nothing.
+-- `tsv::put_digit` meets its contract. Assumes nothing.
 use native.Mathlib.Omega.{arith}
 use lib.ListN.{length-set}
 use Rattle.tsv.proofs.Laws as laws

@@ -1,4 +1,4 @@
--- `fields::put_from` meets its contract. Assumes nothing.
+-- `tsv::put_from` meets its contract. Assumes nothing.
 use Rattle.byte_string.proofs.Stores.{all-from}
 use borrow.Author.Needs.{needs}
 use Rattle.tsv.proofs.put_from.Statement.{statement}

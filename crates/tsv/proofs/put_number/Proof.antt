@@ -1,4 +1,4 @@
--- `fields::put_number` meets its contract. Assumes nothing.
+-- `tsv::put_number` meets its contract. Assumes nothing.
 use native.Mathlib.Omega.{arith}
 use Rattle.tsv.proofs.Laws as laws
 use mathlib.Core.Path.{_≡_}

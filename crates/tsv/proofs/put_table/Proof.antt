@@ -1,4 +1,4 @@
--- `fields::put_table` meets its contract. Assumes nothing.
+-- `tsv::put_table` meets its contract. Assumes nothing.
 use native.Mathlib.Omega.{arith}
 use Rattle.tsv.proofs.Laws as laws
 use borrow.Author.Needs.{needs}

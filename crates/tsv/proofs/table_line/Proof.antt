@@ -1,4 +1,4 @@
--- `fields::table_line` meets its contract. Assumes nothing.
+-- `tsv::table_line` meets its contract. Assumes nothing.
 use native.Mathlib.Omega.{arith}
 use Rattle.byte_string.proofs.Stores.{front}
 use mathlib.Core.Path.{ap, _∙_}

@@ -1,4 +1,4 @@
--- `verdict::replaced::is_key` meets its contract. Assumes nothing.
+-- `aliases::keys::is_key` meets its contract. Assumes nothing.
 use Rattle.aliases.proofs.Slots.{key-leads, no-key}
 use borrow.Author.Needs.{needs}
 use Rattle.aliases.proofs.keys.is_key.Statement.{statement}

@@ -1,4 +1,4 @@
--- `verdict::replaced::put_kind` meets its contract, kind by kind. Assumes nothing.
+-- `aliases::keys::put_kind` meets its contract, kind by kind. Assumes nothing.
 use mathlib.Core.Path.{refl}
 use Rattle.aliases.specs.Keys.{kindKey}
 use Rattle.aliases.proofs.Slots.{put-is}

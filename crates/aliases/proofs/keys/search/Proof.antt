@@ -1,4 +1,4 @@
--- `verdict::replaced::search` meets its contract. Assumes nothing.
+-- `aliases::keys::search` meets its contract. Assumes nothing.
 use native.Mathlib.Omega.{arith}
 use mathlib.Core.Path.{_≡_, refl, sym, ap, _∙_}
 use Prim.Native.Nat.{ℕ}

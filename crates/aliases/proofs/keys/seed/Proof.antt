@@ -1,4 +1,4 @@
--- `verdict::replaced::seed` meets its contract, kind by kind. Assumes nothing.
+-- `aliases::keys::seed` meets its contract, kind by kind. Assumes nothing.
 use native.Mathlib.Omega.{arith}
 use mathlib.Core.Path.{refl}
 use Rattle.table.specs.Hints.{slotStep, slotFrom, slotOf}

@@ -1,4 +1,4 @@
--- `canonical::alias::put_first` meets its contract. Assumes nothing.
+-- `aliases::replace::put_first` meets its contract. Assumes nothing.
 use native.Mathlib.Omega.{arith}
 use mathlib.Core.Path.{_≡_, sym, ap, _∙_}
 use mathlib.Core.List.{map}
@@ -6,7 +6,7 @@ use Prim.Native.Nat.{ℕ, _+_}
 use lib.ListN.{length, length-map}
 use lib.Seq.{sets}
 use Rattle.standard.specs.Tag.{Tag}
-use Rattle.subtag.specs.Bytes.{tidyByte, raised as raisedTag}
+use Rattle.subtag.specs.Bytes.{normalByte, cased as raisedTag}
 use Rattle.subtag.proofs.Raised.{raised-length}
 use Rattle.aliases.proofs.Raised as raised
 use borrow.Author.Needs.{needs}
@@ -23,12 +23,12 @@ returns : tie.Need-returns
 returns c =
     let p = c .before .before in
     let a = p .before .before .before .before .before .before .args in
-    let z : length (map tidyByte (a .given .now)) ≡ 0 = omega (arith, length-map (a .given .now) tidyByte) in
-    let e = raised.pick-none (a .count) (map tidyByte (a .given .now)) (a .brought .now) z in
+    let z : length (map normalByte (a .given .now)) ≡ 0 = omega (arith, length-map (a .given .now) normalByte) in
+    let e = raised.pick-none (a .count) (map normalByte (a .given .now)) (a .brought .now) z in
     (p .put .ensures .0 ∙ ap (λ (t : Tag). a .at + length t) (sym e), p .put .ensures .1 ∙ ap (sets (a .out .now) (a .at)) (sym e))
 
-put-raised-requires : tie.Need-put-raised-requires
-put-raised-requires c κs = search needs
+put-cased-requires : tie.Need-put-cased-requires
+put-cased-requires c κs = search needs
 
 same-length-2 : tie.Need-same-length-2
 same-length-2 c = search needs
@@ -38,13 +38,13 @@ returns-2 c =
     let p = c .before .before in
     let a = p .before .before .before .before .before .before .args in
     let n = p .before .before .if1 .left in
-    let z = length-map (a .given .now) tidyByte in
-    let t = raisedTag (a .count) (map tidyByte (a .given .now)) in
-    let e = raised.pick-some (a .count) (map tidyByte (a .given .now)) (a .brought .now) (omega arith) in
-    let k : length t ≡ length (a .given .now) = raised-length (a .count) (map tidyByte (a .given .now)) ∙ z in
-    (p .put-raised .ensures .0 ∙ ap (λ (m : ℕ). a .at + m) (sym k) ∙ ap (λ (t : Tag). a .at + length t) (sym e), p .put-raised .ensures .1 ∙ ap (sets (a .out .now) (a .at)) (sym e))
+    let z = length-map (a .given .now) normalByte in
+    let t = raisedTag (a .count) (map normalByte (a .given .now)) in
+    let e = raised.pick-some (a .count) (map normalByte (a .given .now)) (a .brought .now) (omega arith) in
+    let k : length t ≡ length (a .given .now) = raised-length (a .count) (map normalByte (a .given .now)) ∙ z in
+    (p .put-cased .ensures .0 ∙ ap (λ (m : ℕ). a .at + m) (sym k) ∙ ap (λ (t : Tag). a .at + length t) (sym e), p .put-cased .ensures .1 ∙ ap (sets (a .out .now) (a .at)) (sym e))
 
 pub put-first-spec : {M : Type 1} → statement M
 put-first-spec =
     tie.close
-    (tie.spec put-requires same-length returns put-raised-requires same-length-2 returns-2)
+    (tie.spec put-requires same-length returns put-cased-requires same-length-2 returns-2)

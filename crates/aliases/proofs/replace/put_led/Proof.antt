@@ -1,4 +1,4 @@
--- `canonical::alias::put_led` meets its contract. Assumes nothing.
+-- `aliases::replace::put_led` meets its contract. Assumes nothing.
 use native.Mathlib.Numerals.{add-one}
 use native.Mathlib.Omega.{arith}
 use mathlib.Core.Path.{_≡_, sym, ap, _∙_}

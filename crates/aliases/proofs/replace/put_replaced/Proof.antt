@@ -1,4 +1,4 @@
--- `canonical::alias::put_replaced` meets its contract. Assumes nothing.
+-- `aliases::replace::put_replaced` meets its contract. Assumes nothing.
 use native.Mathlib.Omega.{arith}
 use mathlib.Core.Path.{_≡_, sym, ap, _∙_}
 use mathlib.Core.List.{List}

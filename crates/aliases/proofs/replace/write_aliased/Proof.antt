@@ -1,4 +1,4 @@
--- `canonical::alias::write_aliased` meets its contract. Assumes nothing.
+-- `aliases::replace::write_aliased` meets its contract. Assumes nothing.
 use native.Mathlib.Omega.{arith}
 use mathlib.Core.Path.{_≡_, sym, ap, _∙_}
 use mathlib.Core.List.{List, map}
@@ -8,7 +8,7 @@ use lib.Seq.{sets}
 use Rattle.standard.specs.Tag.{Tag, pick}
 use Rattle.standard.specs.Reading.{optional}
 use Rattle.standard.specs.Table.{lookup, rows}
-use Rattle.subtag.specs.Bytes.{tidyByte, raised as raisedTag}
+use Rattle.subtag.specs.Bytes.{normalByte, cased as raisedTag}
 use Rattle.subtag.specs.Sections.{led}
 use Rattle.aliases.specs.Replaced.{replacedBy, aliasedPart}
 use Rattle.aliases.proofs.Raised as raised
@@ -32,7 +32,7 @@ put-first-requires c κs = search needs
 abbrev tag : tie.After-key4 → Tag
 tag c =
     let a = c .before .before .before .before .before .before .before .before .before .before .before .before .args in
-    pick (raisedTag (a .count) (map tidyByte (a .given .now))) (a .brought .now)
+    pick (raisedTag (a .count) (map normalByte (a .given .now))) (a .brought .now)
 
 key : (c : tie.After-key4)
     → keys.Keyed (c .before .before .before .before .before .before .before .before .before .before .before .before .args .name .now) (tag c) (c .before .put-first .last .1 .1 .1 .0)
@@ -40,8 +40,8 @@ key : (c : tie.After-key4)
 key c =
     let b = c .before .before .before .before .before .before .before .before .before .before .before .before in
     let a = b .args in
-    let m = length-map (a .given .now) tidyByte in
-    let z : length (tag c) ≤ 8 = raised.pick-small 8 (a .count) (map tidyByte (a .given .now)) (a .brought .now) (omega arith) (omega arith) in
+    let m = length-map (a .given .now) normalByte in
+    let z : length (tag c) ≤ 8 = raised.pick-small 8 (a .count) (map normalByte (a .given .now)) (a .brought .now) (omega arith) (omega arith) in
     let p = c .before .before .before .before in
     keys.keyed _ _ _ _ _ _ _ (p .put .ensures .0) (p .put .ensures .1) (c .before .put-first .ensures .0) (c .before .put-first .ensures .1) (omega arith)
 

@@ -1,4 +1,4 @@
--- `month::key::key_of` meets its contract. Assumes nothing.
+-- `bill_lines::key::key_of` meets its contract. Assumes nothing.
 use mathlib.Core.Path.{sym}
 use native.Mathlib.Omega.{arith}
 use Rattle.operations.proofs.Canonicalised.{canonicalised, formed-by, fits-by, in-order}
@@ -20,12 +20,15 @@ canonical-form-requires c κs = search needs
 enum-known-c : tie.Need-enum-known-c
 enum-known-c c = search needs
 
+enum-told : tie.Need-enum-told
+enum-told c = search needs
+
 returns : tie.Need-returns
 unfolding keyIs
 returns c =
-    let a = c .before .before .before .before .before .before .before .before .before .before .before .args in
-    let k = c .before .before .canonical-form in
-    (sym (refused-key (a .aliases .now) (a .likely .now) (a .id .now) _ (k .result) (k .ensures .0) (c .match .keys2)), omega arith)
+    let k = c .before .before .before in
+    let a = k .before .before .before .before .before .before .before .before .before .args in
+    (sym (refused-key (a .aliases .now) (a .likely .now) (a .id .now) _ (k .canonical-form .result) _ (c .enum-told .given .1) (k .canonical-form .ensures .0)), omega arith)
 
 slice-aggregate-from-form : tie.Need-slice-aggregate-from-form
 slice-aggregate-from-form c = search needs
@@ -72,6 +75,7 @@ key-of-spec =
     slice-aggregate-canonical-form
     canonical-form-requires
     enum-known-c
+    enum-told
     returns
     slice-aggregate-from-form
     from-form-requires

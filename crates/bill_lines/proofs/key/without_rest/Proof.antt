@@ -1,4 +1,4 @@
--- `month::key::without_rest` meets its contract. Assumes nothing.
+-- `bill_lines::key::without_rest` meets its contract. Assumes nothing.
 use mathlib.Core.Path.{sym, ap, _∙_}
 use Rattle.likely.specs.declared.forms.Outcome.{Outcome}
 use Rattle.bill_lines.specs.Keys.{withoutRest}

@@ -1,4 +1,4 @@
--- `month::line::add_used` meets its contract. Assumes nothing.
+-- `bill_lines::line::add_used` meets its contract. Assumes nothing.
 use mathlib.Core.Path.{sym, refl}
 use native.Mathlib.Omega.{arith}
 use lib.ListN.{take}

@@ -1,4 +1,4 @@
--- `month::line::counted` meets its contract. Assumes nothing.
+-- `bill_lines::line::counted` meets its contract. Assumes nothing.
 use mathlib.Core.Path.{refl}
 use Rattle.bill_lines.specs.State.{oneMore}
 use borrow.Author.Needs.{needs}

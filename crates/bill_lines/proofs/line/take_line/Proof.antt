@@ -1,4 +1,4 @@
--- `month::line::take_line` meets its contract. Assumes nothing.
+-- `bill_lines::line::take_line` meets its contract. Assumes nothing.
 use Prim.Native.Nat.{_+_}
 use native.Mathlib.Omega.{arith}
 use Rattle.bill_lines.proofs.Goings.{at-18, at-refused, at-17, at-added, bounded-only, more-bounded}

@@ -1,4 +1,4 @@
--- `month::line::usage_of` meets its contract. Assumes nothing.
+-- `bill_lines::line::usage_of` meets its contract. Assumes nothing.
 use native.Mathlib.Omega.{arith}
 use Rattle.bill_lines.specs.State.{usedIs, usedBy}
 use Rattle.bill_lines.proofs.Usages.{no-member, no-key, has-key, positive}

@@ -1,4 +1,4 @@
--- `month::piece::take_lines` meets its contract. Assumes nothing.
+-- `bill_lines::piece::take_lines` meets its contract. Assumes nothing.
 use mathlib.Core.Path.{_≡_, refl, sym, _∙_}
 use mathlib.Core.List.{List, []}
 use Prim.Native.Nat.{_+_, _-_}

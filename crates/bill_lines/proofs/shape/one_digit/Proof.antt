@@ -1,4 +1,4 @@
--- `month::shape::one_digit` meets its contract. Assumes nothing.
+-- `bill_lines::shape::one_digit` meets its contract. Assumes nothing.
 use native.Mathlib.Omega.{arith}
 use Rattle.bill_lines.proofs.Shapes.{one-low, one-high, one-digit}
 use borrow.Author.Needs.{needs}

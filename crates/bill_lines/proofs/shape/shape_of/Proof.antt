@@ -1,4 +1,4 @@
--- `month::shape::shape_of` meets its contract. Assumes nothing.
+-- `bill_lines::shape::shape_of` meets its contract. Assumes nothing.
 use Rattle.bill_lines.proofs.Shapes.{no-tab, one-shape, two-shape, wrong-size}
 use borrow.Author.Needs.{needs}
 use Rattle.bill_lines.proofs.shape.shape_of.Statement.{statement}

@@ -1,4 +1,4 @@
--- `month::shape::two_digits` meets its contract. Assumes nothing.
+-- `bill_lines::shape::two_digits` meets its contract. Assumes nothing.
 use native.Mathlib.Omega.{arith}
 use Rattle.bill_lines.proofs.Shapes.{two-first-low, two-first-high, two-low, two-high, two-most, two-digits}
 use borrow.Author.Needs.{needs}

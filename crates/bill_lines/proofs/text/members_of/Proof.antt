@@ -1,4 +1,4 @@
--- `month::text::members_of` meets its contract. Assumes nothing.
+-- `bill_lines::text::members_of` meets its contract. Assumes nothing.
 use Prim.Native.Nat.{_≤_}
 use native.Mathlib.Omega.{arith}
 use lib.Count.{ones, ones-le}

@@ -1,4 +1,4 @@
--- `month::text::put_bill` meets its contract. Assumes nothing.
+-- `bill_lines::text::put_bill` meets its contract. Assumes nothing.
 use native.Mathlib.Omega.{arith}
 use Rattle.bill_ledger.specs.Places.{entriesFrom}
 use Rattle.bill_lines.specs.Text.{lastText, entriesText}

@@ -1,4 +1,4 @@
--- `month::text::put_header` meets its contract. Assumes nothing.
+-- `bill_lines::text::put_header` meets its contract. Assumes nothing.
 use Rattle.bill_lines.specs.Text.{header}
 use Rattle.bill_lines.proofs.Texts.{header-put}
 use borrow.Author.Needs.{needs}

@@ -1,4 +1,4 @@
--- `month::text::put_key` meets its contract. Assumes nothing.
+-- `bill_lines::text::put_key` meets its contract. Assumes nothing.
 use mathlib.Core.Path.{refl}
 use native.Mathlib.Omega.{arith}
 use Rattle.bill_lines.proofs.Texts.{key-put}

@@ -1,4 +1,4 @@
--- `month::text::put_row` meets its contract. Assumes nothing.
+-- `bill_lines::text::put_row` meets its contract. Assumes nothing.
 use native.Mathlib.Omega.{arith}
 use Rattle.bill_lines.proofs.Texts.{row-written}
 use borrow.Author.Needs.{needs}

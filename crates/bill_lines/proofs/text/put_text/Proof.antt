@@ -1,4 +1,4 @@
--- `month::text::put_text` meets its contract. Assumes nothing.
+-- `bill_lines::text::put_text` meets its contract. Assumes nothing.
 use mathlib.Core.Path.{sym}
 use mathlib.Core.List.{_++_}
 use native.Mathlib.Omega.{arith}
@@ -41,7 +41,7 @@ returns-2 c =
     let a = c .before .before .before .before .before .before .before .before .before .before .before .before .before .args in
     let v = c .before .before .put-table in
     let t = text-table (a .c) (a .keys .now) (a .counts .now) (c .before .before .before .before .before .before .before .before .if1 .left) (c .before .before .before .before .before .before .if2 .taken) in
-    let w = as-text (tableText (a .c .number) (a .c .table) (a .c .place)) (countsText (a .c) (a .keys .now) (a .counts .now)) (v .result) (a .out .now) (v .last .1 .1 .1 .0) (sym t) (v .ensures .0) (v .ensures .1) in
+    let w = as-text (tableText (a .c .number) (a .c .place) (a .c .table)) (countsText (a .c) (a .keys .now) (a .counts .now)) (v .result) (a .out .now) (v .last .1 .1 .1 .0) (sym t) (v .ensures .0) (v .ensures .1) in
     (w .0, w .1, omega (arith, v .ensures .2))
 
 cast-put-number : tie.Need-cast-put-number

@@ -1,4 +1,4 @@
--- `month::text::write` meets its contract. Assumes nothing.
+-- `bill_lines::text::write` meets its contract. Assumes nothing.
 use mathlib.Core.Path.{refl, sym}
 use mathlib.Core.List.{[]}
 use native.Mathlib.Omega.{arith}

@@ -77,17 +77,17 @@ kept-variants c = omega (arith, kept-three (three c))
 kept : (c : tie.After-write-extensions) → length (c .write-extensions .last .1 .0) ≡ 512
 kept c = omega (arith, kept-variants (variants c))
 
-sub-put-tidy : tie.Need-sub-put-tidy
-sub-put-tidy c = (sections (start (three (variants (c .before .before))))) .high
+sub-put-normalised : tie.Need-sub-put-normalised
+sub-put-normalised c = (sections (start (three (variants (c .before .before))))) .high
 
-part-put-tidy-start : tie.Need-part-put-tidy-start
-part-put-tidy-start c = let l = sections (start (three (variants (c .before .before)))) in omega arith
+part-put-normalised-start : tie.Need-part-put-normalised-start
+part-put-normalised-start c = let l = sections (start (three (variants (c .before .before)))) in omega arith
 
-part-put-tidy-end : tie.Need-part-put-tidy-end
-part-put-tidy-end c = search needs
+part-put-normalised-end : tie.Need-part-put-normalised-end
+part-put-normalised-end c = search needs
 
-put-tidy-requires : tie.Need-put-tidy-requires
-put-tidy-requires c κs =
+put-normalised-requires : tie.Need-put-normalised-requires
+put-normalised-requires c κs =
     let e = c .before .before .before .before in
     omega (arith, size (variants e), e .write-extensions .ensures .2, kept e)
 
@@ -97,7 +97,7 @@ sub-count-subtags c = search needs
 part-count-subtags-start : tie.Need-part-count-subtags-start
 part-count-subtags-start c = search needs
 
-abbrev extensions : tie.After-put-tidy → tie.After-write-extensions
+abbrev extensions : tie.After-put-normalised → tie.After-write-extensions
 extensions c = c .before .before .before .before .before
 
 part-count-subtags-end : tie.Need-part-count-subtags-end
@@ -119,8 +119,8 @@ returns c =
     let w = three v in
     let b = start w in
     let a = b .args in
-    let all = formed.all-written (a .aliases .now) (a .id .now) (b .pre .2 .passes) (b .pre .0) (a .p) (b .pre .1) (w .write-three .result) (w .write-three .ensures .0) (a .out .now) _ _ _ _ _ _ _ (b .pre .3) (w .write-three .ensures .1) (v .write-variants .ensures .0) (v .write-variants .ensures .1) (x .write-extensions .ensures .0) (x .write-extensions .ensures .2) (x .write-extensions .ensures .1) (t .put-tidy .ensures .0) (t .put-tidy .ensures .1) in
-    let is = formed.form-is (a .aliases .now) (a .id .now) (b .pre .2 .passes) (b .pre .0) (a .p) (b .pre .1) (w .write-three .result) (w .write-three .ensures .0) (a .out .now) _ _ _ _ _ _ _ (b .pre .3) (w .write-three .ensures .1) (v .write-variants .ensures .0) (v .write-variants .ensures .1) (x .write-extensions .ensures .0) (x .write-extensions .ensures .2) (x .write-extensions .ensures .1) (t .put-tidy .ensures .0) (t .put-tidy .ensures .1) _ (c .count-subtags .ensures) in
+    let all = formed.all-written (a .aliases .now) (a .id .now) (b .pre .2 .passes) (b .pre .0) (a .p) (b .pre .1) (w .write-three .result) (w .write-three .ensures .0) (a .out .now) _ _ _ _ _ _ _ (b .pre .3) (w .write-three .ensures .1) (v .write-variants .ensures .0) (v .write-variants .ensures .1) (x .write-extensions .ensures .0) (x .write-extensions .ensures .2) (x .write-extensions .ensures .1) (t .put-normalised .ensures .0) (t .put-normalised .ensures .1) in
+    let is = formed.form-is (a .aliases .now) (a .id .now) (b .pre .2 .passes) (b .pre .0) (a .p) (b .pre .1) (w .write-three .result) (w .write-three .ensures .0) (a .out .now) _ _ _ _ _ _ _ (b .pre .3) (w .write-three .ensures .1) (v .write-variants .ensures .0) (v .write-variants .ensures .1) (x .write-extensions .ensures .0) (x .write-extensions .ensures .2) (x .write-extensions .ensures .1) (t .put-normalised .ensures .0) (t .put-normalised .ensures .1) _ (c .count-subtags .ensures) in
     (is, omega (arith, all .0), all .1)
 
 pub write-form-spec : {M : Type 1} → statement M
@@ -136,10 +136,10 @@ write-form-spec =
     part-write-extensions-start
     part-write-extensions-end
     write-extensions-requires
-    sub-put-tidy
-    part-put-tidy-start
-    part-put-tidy-end
-    put-tidy-requires
+    sub-put-normalised
+    part-put-normalised-start
+    part-put-normalised-end
+    put-normalised-requires
     sub-count-subtags
     part-count-subtags-start
     part-count-subtags-end

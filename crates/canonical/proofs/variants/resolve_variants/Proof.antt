@@ -24,27 +24,27 @@ loop-holds c =
 add-start : tie.Need-add-start Inv-loop μ-loop
 add-start c = omega (arith, c .before .loop .inv .0)
 
-sub-judge : tie.Need-sub-judge Inv-loop μ-loop
-sub-judge c = omega (arith, c .before .loop .inv .0)
+sub-scan : tie.Need-sub-scan Inv-loop μ-loop
+sub-scan c = omega (arith, c .before .loop .inv .0)
 
-part-judge-start : tie.Need-part-judge-start Inv-loop μ-loop
-part-judge-start c = omega (arith, c .before .loop .inv .0)
+part-scan-start : tie.Need-part-scan-start Inv-loop μ-loop
+part-scan-start c = omega (arith, c .before .loop .inv .0)
 
-part-judge-end : tie.Need-part-judge-end Inv-loop μ-loop
-part-judge-end c = omega (arith, c .before .loop .inv .0)
+part-scan-end : tie.Need-part-scan-end Inv-loop μ-loop
+part-scan-end c = omega (arith, c .before .loop .inv .0)
 
-judge-requires : tie.Need-judge-requires Inv-loop μ-loop
-judge-requires c κs = search needs
+scan-requires : tie.Need-scan-requires Inv-loop μ-loop
+scan-requires c κs = search needs
 
 -- the variant at hand
-fits : (c : tie.After-judge Inv-loop μ-loop) → let l = c .before .before .before .loop in
-    (l .at + 1 + c .judge .result .len ≤ length (c .before .before .before .before .before .before .before .before .args .s .now)) × (c .judge .result .len ≤ 8)
+fits : (c : tie.After-scan Inv-loop μ-loop) → let l = c .before .before .before .loop in
+    (l .at + 1 + c .scan .result .len ≤ length (c .before .before .before .before .before .before .before .before .args .s .now)) × (c .scan .result .len ≤ 8)
 fits c =
     let t = c .before .before in
     let l = t .before .loop in
     let b = t .before .before .before .before .before .before in (
-      resolves.stop-fits (b .args .aliases .now) (b .args .s .now) (b .args .out .now) (l .at) (l .out) (l .end) (l .inv .1) (omega arith) (c .judge .result) (c .judge .ensures),
-      resolves.tag-small (b .args .aliases .now) (b .args .s .now) (b .args .out .now) (l .at) (l .out) (l .end) (l .inv .1) (omega arith) (c .judge .result) (c .judge .ensures),
+      resolves.stop-fits (b .args .aliases .now) (b .args .s .now) (b .args .out .now) (l .at) (l .out) (l .end) (l .inv .1) (omega arith) (c .scan .result) (c .scan .ensures),
+      resolves.tag-small (b .args .aliases .now) (b .args .s .now) (b .args .out .now) (l .at) (l .out) (l .end) (l .inv .1) (omega arith) (c .scan .result) (c .scan .ensures),
     )
 
 add-stop : tie.Need-add-stop Inv-loop μ-loop
@@ -71,12 +71,12 @@ write-aliased-requires c κs =
     let t = j .before .before in
     let l = t .before .loop in
     let b = t .before .before .before .before .before .before in
-    let stop = l .at + 1 + j .judge .result .len in (
+    let stop = l .at + 1 + j .scan .result .len in (
       places.slice-small (b .args .s .now) (l .at + 1) stop 8 (omega (arith, (fits j) .1)),
       omega arith,
       omega arith,
       b .pre .2,
-      resolves.part-room (b .args .aliases .now) (b .args .s .now) (b .args .out .now) (l .at) (l .out) (l .end) (l .inv .1) (omega arith) (j .judge .result) (j .judge .ensures) stop refl (b .pre .3),
+      resolves.part-room (b .args .aliases .now) (b .args .s .now) (b .args .out .now) (l .at) (l .out) (l .end) (l .inv .1) (omega arith) (j .scan .result) (j .scan .ensures) stop refl (b .pre .3),
     )
 
 loop-less : tie.Need-loop-less Inv-loop μ-loop
@@ -91,9 +91,9 @@ loop-again c =
     let t = j .before .before in
     let l = t .before .loop in
     let b = t .before .before .before .before .before .before in
-    let stop = l .at + 1 + j .judge .result .len in (
+    let stop = l .at + 1 + j .scan .result .len in (
       refl,
-      resolves.resolving-next (b .args .aliases .now) (b .args .s .now) (b .args .out .now) (l .at) (l .out) (l .end) (l .inv .1) (omega arith) (j .judge .result) (j .judge .ensures) stop refl _ _ (p .write-aliased .ensures .0) (p .write-aliased .ensures .1),
+      resolves.resolving-next (b .args .aliases .now) (b .args .s .now) (b .args .out .now) (l .at) (l .out) (l .end) (l .inv .1) (omega arith) (j .scan .result) (j .scan .ensures) stop refl _ _ (p .write-aliased .ensures .0) (p .write-aliased .ensures .1),
     )
 
 same-length : tie.Need-same-length Inv-loop μ-loop
@@ -112,10 +112,10 @@ resolve-variants-spec =
     μ-loop
     loop-holds
     add-start
-    sub-judge
-    part-judge-start
-    part-judge-end
-    judge-requires
+    sub-scan
+    part-scan-start
+    part-scan-end
+    scan-requires
     add-stop
     sub-write-aliased
     part-write-aliased-start

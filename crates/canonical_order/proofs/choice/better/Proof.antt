@@ -1,4 +1,4 @@
--- `canonical::sorted::better` meets its contract. Assumes nothing.
+-- `canonical_order::choice::better` meets its contract. Assumes nothing.
 use borrow.Author.Needs.{needs}
 use borrow.Author.Tests.{le-leb, lt-leb, lt-ltb, le-ltb}
 use Rattle.canonical_order.specs.Section.{betterOf}

@@ -1,4 +1,4 @@
--- `canonical::extensions::write_extension` meets its contract. Assumes nothing.
+-- `canonical_order::extensions::write_extension` meets its contract. Assumes nothing.
 use borrow.Author.Needs.{needs}
 use native.Mathlib.Omega.{arith}
 use mathlib.Core.Path.{refl, _∙_}
@@ -6,7 +6,7 @@ use mathlib.Core.List.{List, map}
 use Prim.Native.Nat.{ℕ, _-_}
 use lib.ListN.{length, take, drop, getD}
 use Rattle.standard.specs.Grammar.{lowerByte, arrangeKeywords, arrangeFields}
-use Rattle.subtag.specs.Bytes.{tidyByte}
+use Rattle.subtag.specs.Bytes.{normalByte}
 use Rattle.subtag.specs.Sections.{tagsOf, led}
 use Rattle.canonical_order.proofs.Arranging as extensions
 use Rattle.byte_string.proofs.Stores as stores
@@ -29,11 +29,11 @@ one c =
     let b = c .before .before .before .before in
     extensions.one (text c) (c .lower .result) (b .pre .2) (b .pre .3) (b .pre .4) (c .lower .ensures)
 
-slice-aggregate-put-tidy : tie.Need-slice-aggregate-put-tidy
-slice-aggregate-put-tidy c = (one (c .before)) .first-size
+slice-aggregate-put-normalised : tie.Need-slice-aggregate-put-normalised
+slice-aggregate-put-normalised c = (one (c .before)) .first-size
 
-put-tidy-requires : tie.Need-put-tidy-requires
-put-tidy-requires c κs = let w = one (c .before .before) in omega arith
+put-normalised-requires : tie.Need-put-normalised-requires
+put-normalised-requires c κs = let w = one (c .before .before) in omega arith
 
 sub-write-keywords : tie.Need-sub-write-keywords
 sub-write-keywords c = let w = one (c .before .before .before .before .before .before) in omega arith
@@ -48,7 +48,7 @@ write-keywords-requires : tie.Need-write-keywords-requires
 write-keywords-requires c κs =
     let p = c .before .before .before .before .before in
     let w = one (p .before .before .before) in
-    (omega (arith, p .put-tidy .ensures .0), omega arith, w .rest-begins, w .rest-plain, w .rest-longer)
+    (omega (arith, p .put-normalised .ensures .0), omega arith, w .rest-begins, w .rest-plain, w .rest-longer)
 
 same-length : tie.Need-same-length
 same-length c = search needs
@@ -60,8 +60,8 @@ returns c =
     let p = i .before .before .before in
     let a = p .before .before .before in
     let w = one a in
-    stores.wrote-two _ _ _ _ _ _ (map tidyByte (take 2 (text a))) (led (arrangeKeywords (tagsOf (take (length (text a) - 2) (drop 2 (text a)))))) _ (w .as-u (i .if1 .taken))
-    (p .put-tidy .ensures .0 ∙ stores.mapped tidyByte _ (take 2 (text a))) (p .put-tidy .ensures .1) (m .write-keywords .ensures .0) (m .write-keywords .ensures .1)
+    stores.wrote-two _ _ _ _ _ _ (map normalByte (take 2 (text a))) (led (arrangeKeywords (tagsOf (take (length (text a) - 2) (drop 2 (text a)))))) _ (w .as-u (i .if1 .taken))
+    (p .put-normalised .ensures .0 ∙ stores.mapped normalByte _ (take 2 (text a))) (p .put-normalised .ensures .1) (m .write-keywords .ensures .0) (m .write-keywords .ensures .1)
 
 sub-write-fields : tie.Need-sub-write-fields
 sub-write-fields c = let w = one (c .before .before .before .before .before .before .before) in omega arith
@@ -77,7 +77,7 @@ write-fields-requires c κs =
     let j = c .before .before in
     let p = j .before .before .before .before in
     let w = one (p .before .before .before) in
-    (omega (arith, p .put-tidy .ensures .0), omega arith, w .rest-begins, w .rest-plain, w .rest-fields (j .if2 .taken))
+    (omega (arith, p .put-normalised .ensures .0), omega arith, w .rest-begins, w .rest-plain, w .rest-fields (j .if2 .taken))
 
 same-length-2 : tie.Need-same-length-2
 same-length-2 c = search needs
@@ -89,23 +89,23 @@ returns-2 c =
     let p = j .before .before .before .before in
     let a = p .before .before .before in
     let w = one a in
-    stores.wrote-two _ _ _ _ _ _ (map tidyByte (take 2 (text a))) (led (arrangeFields (tagsOf (take (length (text a) - 2) (drop 2 (text a)))))) _ (w .as-t (j .if2 .taken))
-    (p .put-tidy .ensures .0 ∙ stores.mapped tidyByte _ (take 2 (text a))) (p .put-tidy .ensures .1) (m .write-fields .ensures .0) (m .write-fields .ensures .1)
+    stores.wrote-two _ _ _ _ _ _ (map normalByte (take 2 (text a))) (led (arrangeFields (tagsOf (take (length (text a) - 2) (drop 2 (text a)))))) _ (w .as-t (j .if2 .taken))
+    (p .put-normalised .ensures .0 ∙ stores.mapped normalByte _ (take 2 (text a))) (p .put-normalised .ensures .1) (m .write-fields .ensures .0) (m .write-fields .ensures .1)
 
-sub-put-tidy : tie.Need-sub-put-tidy
-sub-put-tidy c = let w = one (c .before .before .before .before .before .before .before) in omega arith
+sub-put-normalised : tie.Need-sub-put-normalised
+sub-put-normalised c = let w = one (c .before .before .before .before .before .before .before) in omega arith
 
-part-put-tidy-start : tie.Need-part-put-tidy-start
-part-put-tidy-start c = let w = one (c .before .before .before .before .before .before .before) in omega arith
+part-put-normalised-start : tie.Need-part-put-normalised-start
+part-put-normalised-start c = let w = one (c .before .before .before .before .before .before .before) in omega arith
 
-part-put-tidy-end : tie.Need-part-put-tidy-end
-part-put-tidy-end c = search needs
+part-put-normalised-end : tie.Need-part-put-normalised-end
+part-put-normalised-end c = search needs
 
-put-tidy-requires-2 : tie.Need-put-tidy-requires-2
-put-tidy-requires-2 c κs =
+put-normalised-requires-2 : tie.Need-put-normalised-requires-2
+put-normalised-requires-2 c κs =
     let p = c .before .before .before .before .before .before in
     let w = one (p .before .before .before) in
-    omega (arith, p .put-tidy .ensures .0)
+    omega (arith, p .put-normalised .ensures .0)
 
 same-length-3 : tie.Need-same-length-3
 same-length-3 c = search needs
@@ -117,8 +117,8 @@ returns-3 c =
     let p = j .before .before .before .before in
     let a = p .before .before .before in
     let w = one a in
-    stores.wrote-two _ _ _ _ _ _ (map tidyByte (take 2 (text a))) (map tidyByte (take (length (text a) - 2) (drop 2 (text a)))) _ (w .as-other (j .before .if1 .left) (j .if2 .left))
-    (p .put-tidy .ensures .0 ∙ stores.mapped tidyByte _ (take 2 (text a))) (p .put-tidy .ensures .1) (m .put-tidy2 .ensures .0 ∙ stores.mapped tidyByte _ (take (length (text a) - 2) (drop 2 (text a)))) (m .put-tidy2 .ensures .1)
+    stores.wrote-two _ _ _ _ _ _ (map normalByte (take 2 (text a))) (map normalByte (take (length (text a) - 2) (drop 2 (text a)))) _ (w .as-other (j .before .if1 .left) (j .if2 .left))
+    (p .put-normalised .ensures .0 ∙ stores.mapped normalByte _ (take 2 (text a))) (p .put-normalised .ensures .1) (m .put-normalised2 .ensures .0 ∙ stores.mapped normalByte _ (take (length (text a) - 2) (drop 2 (text a)))) (m .put-normalised2 .ensures .1)
 
 pub write-extension-spec : {M : Type 1} → statement M
 write-extension-spec =
@@ -126,8 +126,8 @@ write-extension-spec =
     (tie.spec
     shared-slice-read-lower
     lower-requires
-    slice-aggregate-put-tidy
-    put-tidy-requires
+    slice-aggregate-put-normalised
+    put-normalised-requires
     sub-write-keywords
     part-write-keywords-start
     part-write-keywords-end
@@ -140,9 +140,9 @@ write-extension-spec =
     write-fields-requires
     same-length-2
     returns-2
-    sub-put-tidy
-    part-put-tidy-start
-    part-put-tidy-end
-    put-tidy-requires-2
+    sub-put-normalised
+    part-put-normalised-start
+    part-put-normalised-end
+    put-normalised-requires-2
     same-length-3
     returns-3)

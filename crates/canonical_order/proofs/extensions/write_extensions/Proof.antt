@@ -1,4 +1,4 @@
--- `canonical::extensions::write_extensions` meets its contract. Assumes nothing.
+-- `canonical_order::extensions::write_extensions` meets its contract. Assumes nothing.
 use native.Mathlib.Omega.{arith}
 use mathlib.Core.List.{List}
 use Prim.Native.Nat.{ℕ, _-_}

@@ -1,4 +1,4 @@
--- `canonical::extensions::write_fields` meets its contract. Assumes nothing.
+-- `canonical_order::extensions::write_fields` meets its contract. Assumes nothing.
 use borrow.Author.Needs.{needs}
 use native.Mathlib.Omega.{arith}
 use mathlib.Core.Path.{sym}

@@ -1,4 +1,4 @@
--- `canonical::heads::better_by` meets its contract. Assumes nothing.
+-- `canonical_order::heads::better_by` meets its contract. Assumes nothing.
 use borrow.Author.Tests.{lt-ltb, le-ltb}
 use Rattle.canonical_order.specs.Judged.{betterBy}
 use Rattle.canonical_order.proofs.heads.better_by.Statement.{statement}

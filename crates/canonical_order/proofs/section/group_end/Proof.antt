@@ -1,4 +1,4 @@
--- `canonical::section::group_end` meets its contract. Assumes nothing.
+-- `canonical_order::section::group_end` meets its contract. Assumes nothing.
 use borrow.Author.Needs.{needs}
 use native.Mathlib.Omega.{arith}
 use mathlib.Core.Path.{_≡_, refl, sym, _∙_}
@@ -23,22 +23,22 @@ loop-holds c = (c .before .pre .0, c .before .pre .1, refl)
 add-start : tie.Need-add-start Inv-loop μ-loop
 add-start c = omega arith
 
-sub-judge : tie.Need-sub-judge Inv-loop μ-loop
-sub-judge c = omega arith
+sub-scan : tie.Need-sub-scan Inv-loop μ-loop
+sub-scan c = omega arith
 
-part-judge-start : tie.Need-part-judge-start Inv-loop μ-loop
-part-judge-start c = omega arith
+part-scan-start : tie.Need-part-scan-start Inv-loop μ-loop
+part-scan-start c = omega arith
 
-part-judge-end : tie.Need-part-judge-end Inv-loop μ-loop
-part-judge-end c = omega arith
+part-scan-end : tie.Need-part-scan-end Inv-loop μ-loop
+part-scan-end c = omega arith
 
-judge-requires : tie.Need-judge-requires Inv-loop μ-loop
-judge-requires c κs = search needs
+scan-requires : tie.Need-scan-requires Inv-loop μ-loop
+scan-requires c κs = search needs
 
-stepped : (c : tie.After-judge Inv-loop μ-loop)
-    → picks.Stepped (c .before .before .before .before .before .args .s .now) (c .before .before .before .loop .at) (c .judge .result)
+stepped : (c : tie.After-scan Inv-loop μ-loop)
+    → picks.Stepped (c .before .before .before .before .before .args .s .now) (c .before .before .before .loop .at) (c .scan .result)
 stepped c =
-    picks.stepped _ _ _ (c .before .before .loop-test .taken) (c .before .before .before .loop .inv .1) (c .judge .ensures)
+    picks.stepped _ _ _ (c .before .before .loop-test .taken) (c .before .before .before .loop .inv .1) (c .scan .ensures)
 
 returns : tie.Need-returns Inv-loop μ-loop
 returns c = sym (c .before .before .before .before .loop .inv .2 ∙ picks.end-here _ _ _ (stepped (c .before)) _ (c .if1 .taken))
@@ -65,10 +65,10 @@ group-end-spec =
     μ-loop
     loop-holds
     add-start
-    sub-judge
-    part-judge-start
-    part-judge-end
-    judge-requires
+    sub-scan
+    part-scan-start
+    part-scan-end
+    scan-requires
     returns
     add-at
     loop-less

@@ -1,4 +1,4 @@
--- `canonical::section::is_variant` meets its contract. Assumes nothing.
+-- `canonical_order::section::is_variant` meets its contract. Assumes nothing.
 use mathlib.Core.Path.{_≡_, sym, ap, _∙_}
 use mathlib.Core.Bool.{Bool}
 use Rattle.standard.specs.Grammar.{variantKind}

@@ -1,4 +1,4 @@
--- `canonical::sorted::trimmed_end` meets its contract. Assumes nothing.
+-- `canonical_order::sorted::trimmed_end` meets its contract. Assumes nothing.
 use borrow.Author.Needs.{needs}
 use native.Mathlib.Omega.{arith}
 use mathlib.Core.Path.{_∙_}
@@ -17,30 +17,30 @@ returns-2 c = trim.trim-none _ _ _ _ (not-false _ (c .before .if1 .left)) (c .if
 add-start : tie.Need-add-start
 add-start c = search needs
 
-sub-judge : tie.Need-sub-judge
-sub-judge c = search needs
+sub-scan : tie.Need-sub-scan
+sub-scan c = search needs
 
-part-judge-start : tie.Need-part-judge-start
-part-judge-start c = search needs
+part-scan-start : tie.Need-part-scan-start
+part-scan-start c = search needs
 
-part-judge-end : tie.Need-part-judge-end
-part-judge-end c = search needs
+part-scan-end : tie.Need-part-scan-end
+part-scan-end c = search needs
 
-judge-requires : tie.Need-judge-requires
-judge-requires c κs = search needs
+scan-requires : tie.Need-scan-requires
+scan-requires c κs = search needs
 
 without-requires : tie.Need-without-requires
 without-requires c κs =
     let a = c .before .before .before .before .before .args in
-    let z = walk.judged-fits (a .s .now) _ _ (c .judge .ensures) in
+    let z = walk.judged-fits (a .s .now) _ _ (c .scan .ensures) in
     omega arith
 
 returns-3 : tie.Need-returns-3
 returns-3 c =
     let a = c .before .before .before .before .before .before .args in
     c .without .ensures
-    ∙ trim.trim-on (a .trim) (a .s .now) (a .next) (a .end) (c .before .judge .result) (not-false _ (c .before .before .before .before .if1 .left)) (c .before .before .before .if2 .left)
-    (c .before .judge .ensures)
+    ∙ trim.trim-on (a .trim) (a .s .now) (a .next) (a .end) (c .before .scan .result) (not-false _ (c .before .before .before .before .if1 .left)) (c .before .before .before .if2 .left)
+    (c .before .scan .ensures)
 
 pub trimmed-end-spec : {M : Type 1} → statement M
 trimmed-end-spec =
@@ -49,9 +49,9 @@ trimmed-end-spec =
     returns
     returns-2
     add-start
-    sub-judge
-    part-judge-start
-    part-judge-end
-    judge-requires
+    sub-scan
+    part-scan-start
+    part-scan-end
+    scan-requires
     without-requires
     returns-3)

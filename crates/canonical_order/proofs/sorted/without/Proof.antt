@@ -1,4 +1,4 @@
--- `canonical::sorted::without` meets its contract. Assumes nothing.
+-- `canonical_order::sorted::without` meets its contract. Assumes nothing.
 use borrow.Author.Needs.{needs}
 use borrow.Author.Tests.{eq-eqb, ne-eqb}
 use Rattle.canonical_order.specs.Section.{endWithout}

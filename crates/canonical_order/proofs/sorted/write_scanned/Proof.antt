@@ -1,4 +1,4 @@
--- `canonical::sorted::write_scanned` meets its contract. The loop's invariant: what is pending, put at its place, gives the result.
+-- `canonical_order::sorted::write_scanned` meets its contract. The loop's invariant: what is pending, put at its place, gives the result.
 -- Assumes nothing.
 use native.Mathlib.Omega.{arith}
 use Prim.Native.Nat.{_-_, _<_}
@@ -66,17 +66,17 @@ found c =
       (writes.found _ _ _ _ _ (b .pre .2) (b .pre .3) _ _ _ _ (c .before .before .before .next-above .ensures) (l .inv) (c .before .before .if1 .left)) .rises,
     )
 
-sub-put-tidy : tie.Need-sub-put-tidy Inv-loop μ-loop
-sub-put-tidy c = omega (arith, (part c) .after, (found c) .0)
+sub-put-normalised : tie.Need-sub-put-normalised Inv-loop μ-loop
+sub-put-normalised c = omega (arith, (part c) .after, (found c) .0)
 
-part-put-tidy-start : tie.Need-part-put-tidy-start Inv-loop μ-loop
-part-put-tidy-start c = omega (arith, (part c) .after, (found c) .0)
+part-put-normalised-start : tie.Need-part-put-normalised-start Inv-loop μ-loop
+part-put-normalised-start c = omega (arith, (part c) .after, (found c) .0)
 
-part-put-tidy-end : tie.Need-part-put-tidy-end Inv-loop μ-loop
-part-put-tidy-end c = omega (arith, (part c) .after, (part c) .fits, (found c) .0)
+part-put-normalised-end : tie.Need-part-put-normalised-end Inv-loop μ-loop
+part-put-normalised-end c = omega (arith, (part c) .after, (part c) .fits, (found c) .0)
 
-put-tidy-requires : tie.Need-put-tidy-requires Inv-loop μ-loop
-put-tidy-requires c κs =
+put-normalised-requires : tie.Need-put-normalised-requires Inv-loop μ-loop
+put-normalised-requires c κs =
     let d = c .before .before in
     let b = d .before .before .before .before .before .before .before in
     let l = d .before .before .before .before .loop in
@@ -93,7 +93,7 @@ loop-again c =
     let b = d .before .before .before .before .before .before .before in
     let l = d .before .before .before .before .loop in
     writes.writing-next _ _ _ _ _ (b .pre .2) (b .pre .3) _ _ _ _ (d .before .before .before .next-above .ensures) (l .inv) (d .before .before .if1 .left) _
-    (d .before .group-end .ensures) _ (d .trimmed-end .ensures) _ _ (p .put-tidy .ensures .0) (p .put-tidy .ensures .1)
+    (d .before .group-end .ensures) _ (d .trimmed-end .ensures) _ _ (p .put-normalised .ensures .0) (p .put-normalised .ensures .1)
 
 pub write-scanned-spec : {M : Type 1} → statement M
 write-scanned-spec =
@@ -107,9 +107,9 @@ write-scanned-spec =
     returns
     group-end-requires
     trimmed-end-requires
-    sub-put-tidy
-    part-put-tidy-start
-    part-put-tidy-end
-    put-tidy-requires
+    sub-put-normalised
+    part-put-normalised-start
+    part-put-normalised-end
+    put-normalised-requires
     loop-less
     loop-again)

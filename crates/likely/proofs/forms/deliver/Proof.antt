@@ -1,3 +1,4 @@
+-- `likely::forms::deliver` meets its contract. Assumes nothing.
 use Rattle.likely.proofs.Delivered.{given-long, given-short, given-done, room-four, over, upto}
 use borrow.Author.Needs.{needs}
 use Rattle.likely.proofs.forms.deliver.Statement.{statement}

@@ -1,5 +1,6 @@
+-- `likely::forms::finish` meets its contract. Assumes nothing.
 use Rattle.likely.specs.Kept.{keptParts}
-use Rattle.likely.specs.declared.three.Kept.the-variants.{Neither, Region, Script, Both}
+use Rattle.likely.specs.declared.lsr.Kept.the-variants.{Neither, Region, Script, Both}
 use Rattle.likely.proofs.Lookups.{flip-true, flip-false}
 use Rattle.likely.proofs.Delivered.{made-whole, made-long, made-kept, kept-is, then-given, over, upto}
 use borrow.Author.Needs.{needs}

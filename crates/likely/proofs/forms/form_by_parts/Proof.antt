@@ -1,3 +1,4 @@
+-- `likely::forms::form_by_parts` meets its contract. Assumes nothing.
 use mathlib.Core.Path.{sym, ap, _∙_}
 use mathlib.Core.Bool.{true}
 use mathlib.Core.List.{[]}

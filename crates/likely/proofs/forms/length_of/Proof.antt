@@ -1,3 +1,4 @@
+-- `likely::forms::length_of` meets its contract. Assumes nothing.
 use Rattle.likely.proofs.Delivered.{long-1, long-2, long-3, long-4, long-form, short-form}
 use borrow.Author.Needs.{needs}
 use Rattle.likely.proofs.forms.length_of.Statement.{statement}

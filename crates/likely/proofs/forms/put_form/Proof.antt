@@ -1,3 +1,4 @@
+-- `likely::forms::put_form` meets its contract. Assumes nothing.
 use Rattle.likely.proofs.Delivered.{put-four}
 use borrow.Author.Needs.{needs}
 use Rattle.likely.proofs.forms.put_form.Statement.{statement}

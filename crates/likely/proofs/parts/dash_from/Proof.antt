@@ -1,3 +1,4 @@
+-- `likely::parts::dash_from` meets its contract. Assumes nothing.
 use Rattle.likely.proofs.Lookups.{dash-here, dash-more, dash-off}
 use mathlib.Core.Path.{_≡_, refl, sym, _∙_}
 use Prim.Native.Nat.{_-_}

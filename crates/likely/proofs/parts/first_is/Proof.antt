@@ -1,3 +1,4 @@
+-- `likely::parts::first_is` meets its contract. Assumes nothing.
 use Rattle.likely.proofs.Lookups.{other-is, first-is-same}
 use borrow.Author.Needs.{needs}
 use Rattle.likely.proofs.parts.first_is.Statement.{statement}

@@ -1,3 +1,4 @@
+-- `likely::parts::first_of` meets its contract. Assumes nothing.
 use native.Mathlib.Omega.{arith}
 use Rattle.likely.proofs.Lookups.{pick-none, pick-some}
 use Rattle.likely.proofs.parts.first_of.Statement.{statement}

@@ -1,3 +1,4 @@
+-- `likely::parts::is_complete` meets its contract. Assumes nothing.
 use native.Mathlib.Omega.{arith}
 use Rattle.likely.proofs.Lookups.{no-language, no-script, by-region}
 use borrow.Author.Needs.{needs}

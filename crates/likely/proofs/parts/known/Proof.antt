@@ -1,3 +1,4 @@
+-- `likely::parts::known` meets its contract. Assumes nothing.
 use Rattle.likely.proofs.Lookups.{known-gone, known-kept}
 use borrow.Author.Needs.{needs}
 use Rattle.likely.proofs.parts.known.Statement.{statement}

@@ -1,3 +1,4 @@
+-- `likely::parts::language_of` meets its contract. Assumes nothing.
 use Rattle.likely.proofs.Lookups.{language-other, language-kept}
 use borrow.Author.Needs.{needs}
 use Rattle.likely.proofs.parts.language_of.Statement.{statement}

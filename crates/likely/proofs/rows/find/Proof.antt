@@ -1,3 +1,4 @@
+-- `likely::rows::find` meets its contract. Assumes nothing.
 use mathlib.Core.Path.{sym, _∙_}
 use borrow.Author.Tests.{leb-true}
 use Rattle.likely.proofs.Lookups.{no-room}

@@ -1,3 +1,4 @@
+-- `likely::rows::find_key` meets its contract. Assumes nothing.
 use mathlib.Core.Path.{refl, sym}
 use Prim.Native.Nat.{_+_, _≤_}
 use lib.ListN.{length}

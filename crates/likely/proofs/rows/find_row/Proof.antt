@@ -1,3 +1,4 @@
+-- `likely::rows::find_row` meets its contract. Assumes nothing.
 use Rattle.likely.proofs.Lookups.{ready-language, says, row-first, row-no-script, row-no-region, row-shorter}
 use borrow.Author.Needs.{needs}
 use Rattle.likely.proofs.rows.find_row.Statement.{statement}

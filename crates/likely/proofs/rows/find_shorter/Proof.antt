@@ -1,3 +1,4 @@
+-- `likely::rows::find_shorter` meets its contract. Assumes nothing.
 use mathlib.Core.Path.{refl}
 use mathlib.Core.Bool.{false}
 use mathlib.Core.List.{[]}

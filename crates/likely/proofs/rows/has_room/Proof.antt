@@ -1,3 +1,4 @@
+-- `likely::rows::has_room` meets its contract. Assumes nothing.
 use Rattle.likely.proofs.Lookups.{long-language, long-script, long-region}
 use borrow.Author.Needs.{needs}
 use Rattle.likely.proofs.rows.has_room.Statement.{statement}

@@ -1,4 +1,4 @@
--- `canonical::canonicalise_tested` meets its contract. Assumes nothing.
+-- `operations::canonicalise::canonicalise_tested` meets its contract. Assumes nothing.
 use native.Mathlib.Omega.{arith}
 use mathlib.Core.Path.{sym}
 use Prim.Native.Nat.{_≤_}
@@ -23,14 +23,20 @@ canonical-form-requires c κs = search needs
 enum-known-c : tie.Need-enum-known-c
 enum-known-c c = search needs
 
+enum-told : tie.Need-enum-told
+enum-told c = search needs
+
+refusal-in-requires : tie.Need-refusal-in-requires
+refusal-in-requires c κs = search needs
+
 refused-requires : tie.Need-refused-requires
 refused-requires c κs = search needs
 
 returns : tie.Need-returns
 returns c =
-    let k = c .before .before .before in
+    let k = c .before .before .before .before .before in
     let b = k .before .before .before .before .before .before .before in
-    delivers.refused-stands (b .args .aliases .now) (b .args .id .now) _ _ (k .canonical-form .result) (c .refused .result) (c .refused .ensures) (k .canonical-form .ensures .0) (c .before .match .keys2)
+    delivers.refused-stands (b .args .aliases .now) (b .args .id .now) _ _ (k .canonical-form .result) _ (c .refused .result) (c .refused .ensures) (c .before .refusal-in .ensures) (k .canonical-form .ensures .0)
 
 abbrev form : tie.After-c → Form
 form c = c .c .given .0 .0
@@ -68,6 +74,8 @@ canonicalise-tested-spec =
     slice-aggregate-canonical-form
     canonical-form-requires
     enum-known-c
+    enum-told
+    refusal-in-requires
     refused-requires
     returns
     array-share-prefix-form

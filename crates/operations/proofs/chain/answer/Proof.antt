@@ -1,4 +1,4 @@
--- `parents::whole::answer` meets its contract. Assumes nothing.
+-- `operations::chain::answer` meets its contract. Assumes nothing.
 use mathlib.Core.Path.{sym, ap, _∙_}
 use Rattle.operations.specs.Chained.{answerBy}
 use borrow.Author.Needs.{needs}

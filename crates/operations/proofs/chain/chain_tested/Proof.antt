@@ -1,3 +1,4 @@
+-- `operations::chain::chain_tested` meets its contract. Assumes nothing.
 use mathlib.Core.Path.{refl}
 use native.Mathlib.Omega.{arith}
 use Rattle.table.proofs.Hinting.{hinted-empty}
@@ -27,11 +28,17 @@ canonical-form-requires c κs =
 enum-known-c : tie.Need-enum-known-c
 enum-known-c c = search needs
 
+enum-told : tie.Need-enum-told
+enum-told c = search needs
+
+refusal-in-requires : tie.Need-refusal-in-requires
+refusal-in-requires c κs = search needs
+
 returns : tie.Need-returns
 returns c =
-    let a = c .before .before .before .before .before .before .before .before .before .before .args in
-    let k = c .before .before .canonical-form in
-    chain-stands (a .aliases .now) (a .parents .now) (a .id .now) (k .result) _ _ (k .ensures .0) (c .match .keys2)
+    let k = c .before .before .before .before in
+    let a = k .before .before .before .before .before .before .before .before .args in
+    chain-stands (a .aliases .now) (a .parents .now) (a .id .now) (k .canonical-form .result) _ _ _ (c .refusal-in .ensures) (k .canonical-form .ensures .0)
 
 slice-aggregate-list-form : tie.Need-slice-aggregate-list-form
 slice-aggregate-list-form c = search needs
@@ -70,6 +77,8 @@ chain-tested-spec =
     slice-aggregate-canonical-form-2
     canonical-form-requires
     enum-known-c
+    enum-told
+    refusal-in-requires
     returns
     slice-aggregate-list-form
     slice-aggregate-list-form-2

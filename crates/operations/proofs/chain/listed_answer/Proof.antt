@@ -1,4 +1,4 @@
--- `parents::whole::listed_answer` meets its contract. Assumes nothing.
+-- `operations::chain::listed_answer` meets its contract. Assumes nothing.
 use mathlib.Core.Path.{_∙_}
 use borrow.Author.Tests.{not-true, not-false}
 use Rattle.operations.proofs.ChainChecked.{listing-fits, listing-short}

@@ -1,4 +1,4 @@
--- `likely::whole::answer` meets its contract. Assumes nothing.
+-- `operations::complete::answer` meets its contract. Assumes nothing.
 use mathlib.Core.Path.{sym, ap, _∙_}
 use Rattle.operations.specs.Completed.{answerBy}
 use borrow.Author.Needs.{needs}

@@ -1,3 +1,4 @@
+-- `operations::complete::form_hinted` meets its contract. Assumes nothing.
 use native.Mathlib.Omega.{arith}
 use Rattle.operations.proofs.Canonicalised.{canonicalised, formed-by, fits-by, in-order}
 use Rattle.operations.proofs.CompleteForms.{refusal-stands, made-answer}
@@ -17,11 +18,17 @@ canonical-form-requires c κs = search needs
 enum-known-c : tie.Need-enum-known-c
 enum-known-c c = search needs
 
+enum-told : tie.Need-enum-told
+enum-told c = search needs
+
+refusal-in-requires : tie.Need-refusal-in-requires
+refusal-in-requires c κs = search needs
+
 returns : tie.Need-returns
 returns c =
-    let a = c .before .before .before .before .before .before .before .before .before .before .before .args in
-    let k = c .before .before .canonical-form in
-    refusal-stands (a .aliases .now) (a .likely .now) (a .id .now) (a .shorten) (k .result) _ _ (k .ensures .0) (c .match .keys2)
+    let k = c .before .before .before .before in
+    let a = k .before .before .before .before .before .before .before .before .before .args in
+    refusal-stands (a .aliases .now) (a .likely .now) (a .id .now) (a .shorten) (k .canonical-form .result) _ _ _ (c .refusal-in .ensures) (k .canonical-form .ensures .0)
 
 slice-aggregate-from-form : tie.Need-slice-aggregate-from-form
 slice-aggregate-from-form c = search needs
@@ -55,6 +62,8 @@ form-hinted-spec =
     slice-aggregate-canonical-form
     canonical-form-requires
     enum-known-c
+    enum-told
+    refusal-in-requires
     returns
     slice-aggregate-from-form
     from-form-requires

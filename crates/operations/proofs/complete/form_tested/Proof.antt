@@ -1,4 +1,4 @@
--- `likely::tested::form_tested` meets its contract. Assumes nothing.
+-- `operations::complete::form_tested` meets its contract. Assumes nothing.
 use Rattle.table.proofs.Hinting.{hinted-empty}
 use borrow.Author.Needs.{needs}
 use Rattle.operations.proofs.complete.form_tested.Statement.{statement}

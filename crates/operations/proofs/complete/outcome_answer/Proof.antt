@@ -1,4 +1,4 @@
--- `likely::whole::outcome_answer` meets its contract. Assumes nothing.
+-- `operations::complete::outcome_answer` meets its contract. Assumes nothing.
 use mathlib.Core.Path.{sym, ap, _∙_}
 use Rattle.operations.specs.Completed.{outcomeAnswer}
 use borrow.Author.Needs.{needs}

@@ -1,4 +1,4 @@
--- `canonical::delivery::deliver` meets its contract. Assumes nothing.
+-- `operations::delivery::deliver` meets its contract. Assumes nothing.
 use Rattle.operations.proofs.Delivers as delivers
 use borrow.Author.Needs.{needs}
 use Rattle.operations.proofs.delivery.deliver.Statement.{statement}

@@ -1,4 +1,4 @@
--- `canonical::delivery::refuse` meets its contract. Assumes nothing.
+-- `operations::delivery::refuse` meets its contract. Assumes nothing.
 use mathlib.Core.Path.{refl}
 use Rattle.operations.specs.Answer.{refusedAnswer}
 use Rattle.operations.proofs.delivery.refuse.Statement.{statement}

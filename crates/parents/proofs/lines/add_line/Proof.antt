@@ -1,3 +1,4 @@
+-- `parents::lines::add_line` meets its contract. Assumes nothing.
 use Rattle.parents.proofs.Writing.{more-fits, more-short}
 use borrow.Author.Needs.{needs}
 use Rattle.parents.proofs.lines.add_line.Statement.{statement}

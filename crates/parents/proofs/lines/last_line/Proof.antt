@@ -1,3 +1,4 @@
+-- `parents::lines::last_line` meets its contract. Assumes nothing.
 use Rattle.parents.proofs.Writing.{one-short, one-fits}
 use borrow.Author.Needs.{needs}
 use Rattle.parents.proofs.lines.last_line.Statement.{statement}

@@ -1,3 +1,4 @@
+-- `parents::lines::put_line` meets its contract. Assumes nothing.
 use Rattle.parents.proofs.Writing.{put-end}
 use borrow.Author.Needs.{needs}
 use Rattle.parents.proofs.lines.put_line.Statement.{statement}

@@ -1,3 +1,4 @@
+-- `parents::lines::row_of` meets its contract. Assumes nothing.
 use Prim.Native.Nat.{_+_, _-_}
 use native.Mathlib.Omega.{arith}
 use Rattle.parents.proofs.Writing.{no-value, no-row, value-found, row-found, part-le}

@@ -1,4 +1,4 @@
--- `verdict::parents::key_reaches_root` meets its contract. Assumes nothing.
+-- `parents::walk::key_reaches_root` meets its contract. Assumes nothing.
 use mathlib.Core.Path.{sym, _∙_}
 use native.Mathlib.Omega.{arith}
 use Rattle.parents.proofs.Walks.{reach-root, reach-und, reach-next}

@@ -1,4 +1,4 @@
--- `verdict::parents::own_parent` meets its contract. Assumes nothing.
+-- `parents::walk::own_parent` meets its contract. Assumes nothing.
 use borrow.Author.Tests.{not-false}
 use mathlib.Core.Path.{subst}
 use mathlib.Core.Bool.{Bool}

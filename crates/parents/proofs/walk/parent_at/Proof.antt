@@ -1,4 +1,4 @@
--- `verdict::parents::parent_at` meets its contract. Assumes nothing.
+-- `parents::walk::parent_at` meets its contract. Assumes nothing.
 use Rattle.parents.proofs.Walks.{parent-row, parent-short}
 use borrow.Author.Needs.{needs}
 use Rattle.parents.proofs.walk.parent_at.Statement.{statement}

@@ -1,4 +1,4 @@
--- `verdict::parents::reaches_root` meets its contract. The invariant: the walk from the text at hand, with the steps that are left,
+-- `parents::walk::reaches_root` meets its contract. The invariant: the walk from the text at hand, with the steps that are left,
 -- decides. Assumes nothing.
 use borrow.Author.Needs.{needs}
 use native.Mathlib.Omega.{arith}

@@ -1,4 +1,4 @@
--- `verdict::parents::shorter` meets its contract. Assumes nothing.
+-- `parents::walk::shorter` meets its contract. Assumes nothing.
 use Rattle.parents.proofs.Walks.{shorter-region, shorter-script, shorter-root}
 use borrow.Author.Needs.{needs}
 use Rattle.parents.proofs.walk.shorter.Statement.{statement}

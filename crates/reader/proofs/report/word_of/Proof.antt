@@ -29,8 +29,8 @@ returns c = let l = c .before .before .before .before .loop .inv in (words.wordi
 lower-requires : tie.Need-lower-requires Inv-loop μ-loop
 lower-requires c κs = search needs
 
-raise-requires : tie.Need-raise-requires Inv-loop μ-loop
-raise-requires c κs = search needs
+recase-requires : tie.Need-recase-requires Inv-loop μ-loop
+recase-requires c κs = search needs
 
 array-write-bytes : tie.Need-array-write-bytes Inv-loop μ-loop
 array-write-bytes c = words.wording-room _ _ _ _ (c .before .before .before .before .before .before .loop .inv) (c .before .before .before .before .before .loop-test .taken) (sym (c .before .before .before .is-separator .ensures) ∙ c .before .before .if1 .left)
@@ -42,7 +42,7 @@ loop-less : tie.Need-loop-less Inv-loop μ-loop
 loop-less c = omega arith
 
 loop-again : tie.Need-loop-again Inv-loop μ-loop
-loop-again c = words.wording-more _ _ _ _ (c .before .before .before .before .before .before .loop .inv) _ _ (c .before .before .before .before .before .loop-test .taken) (sym (c .before .before .before .is-separator .ensures) ∙ c .before .before .if1 .left) (c .before .lower .ensures) (c .raise .ensures)
+loop-again c = words.wording-more _ _ _ _ (c .before .before .before .before .before .before .loop .inv) _ _ (c .before .before .before .before .before .loop-test .taken) (sym (c .before .before .before .is-separator .ensures) ∙ c .before .before .if1 .left) (c .before .lower .ensures) (c .recase .ensures)
 
 returns-2 : tie.Need-returns-2 Inv-loop μ-loop
 returns-2 c = (words.wording-end _ _ _ _ (c .before .loop .inv) (c .loop-test .left), words.wording-few _ _ _ _ (c .before .loop .inv))
@@ -58,7 +58,7 @@ word-of-spec =
     is-separator-requires
     returns
     lower-requires
-    raise-requires
+    recase-requires
     array-write-bytes
     add-len
     loop-less

@@ -5,11 +5,11 @@ use borrow.Author.Needs.{needs}
 use Rattle.reader.proofs.steps.part_state.Statement.{statement}
 use Rattle.reader.proofs.steps.part_state.Tie as tie
 
-is-field-requires : tie.Need-is-field-requires
-is-field-requires c κs = search needs
+is-field-key-requires : tie.Need-is-field-key-requires
+is-field-key-requires c κs = search needs
 
 returns : tie.Need-returns
-returns c = choices.part-key _ _ _ (c .before .is-field .ensures) (c .if1 .taken)
+returns c = choices.part-key _ _ _ (c .before .is-field-key .ensures) (c .if1 .taken)
 
 kind-of-requires : tie.Need-kind-of-requires
 kind-of-requires c κs = search needs
@@ -21,16 +21,16 @@ stage-by-requires : tie.Need-stage-by-requires
 stage-by-requires c κs = search needs
 
 returns-2 : tie.Need-returns-2
-returns-2 c = choices.part-stage _ _ _ (c .before .before .before .before .before .is-field .ensures) (c .before .before .before .before .if1 .left) _ (choices.stage-taken Part _ _ _ (c .before .before .before .kind-of .ensures) _ (c .before .before .accepts .ensures) (c .before .if2 .taken) _ (c .stage-by .ensures))
+returns-2 c = choices.part-stage _ _ _ (c .before .before .before .before .before .is-field-key .ensures) (c .before .before .before .before .if1 .left) _ (choices.stage-taken Part _ _ _ (c .before .before .before .kind-of .ensures) _ (c .before .before .accepts .ensures) (c .before .if2 .taken) _ (c .stage-by .ensures))
 
 returns-3 : tie.Need-returns-3
-returns-3 c = choices.part-stage _ _ _ (c .before .before .before .before .is-field .ensures) (c .before .before .before .if1 .left) _ (choices.stage-left Part _ _ _ (c .before .before .kind-of .ensures) _ (c .before .accepts .ensures) (c .if2 .left))
+returns-3 c = choices.part-stage _ _ _ (c .before .before .before .before .is-field-key .ensures) (c .before .before .before .if1 .left) _ (choices.stage-left Part _ _ _ (c .before .before .kind-of .ensures) _ (c .before .accepts .ensures) (c .if2 .left))
 
 pub part-state-spec : {M : Type 1} → statement M
 part-state-spec =
     tie.close
     (tie.spec
-    is-field-requires
+    is-field-key-requires
     returns
     kind-of-requires
     accepts-requires

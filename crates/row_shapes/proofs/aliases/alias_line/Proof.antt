@@ -1,4 +1,4 @@
--- `rows::aliases::alias_line` meets its contract. Assumes nothing.
+-- `row_shapes::aliases::alias_line` meets its contract. Assumes nothing.
 use native.Mathlib.Omega.{arith}
 use Prim.Native.Nat.{_+_}
 use Rattle.byte_string.proofs.Ends.{Ends, ends}

@@ -1,4 +1,4 @@
--- `rows::aliases::alias_row` meets its contract. Assumes nothing.
+-- `row_shapes::aliases::alias_row` meets its contract. Assumes nothing.
 use borrow.Author.Needs.{needs}
 use native.Mathlib.Omega.{arith}
 use borrow.Author.Tests.{not-true, not-false}

@@ -1,4 +1,4 @@
--- `rows::aliases::alias_shape` meets its contract, kind by kind. Assumes nothing.
+-- `row_shapes::aliases::alias_shape` meets its contract, kind by kind. Assumes nothing.
 use mathlib.Core.Path.{sym, _∙_}
 use Rattle.row_shapes.proofs.Judges as judges
 use borrow.Author.Needs.{needs}

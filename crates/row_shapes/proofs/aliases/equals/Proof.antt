@@ -1,4 +1,4 @@
--- `rows::aliases::equals` meets its contract. Assumes nothing.
+-- `row_shapes::aliases::equals` meets its contract. Assumes nothing.
 use Rattle.row_shapes.proofs.Judges.{lengths-differ}
 use borrow.Author.Needs.{needs}
 use Rattle.row_shapes.proofs.aliases.equals.Statement.{statement}

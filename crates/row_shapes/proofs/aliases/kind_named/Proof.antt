@@ -1,4 +1,4 @@
--- `rows::aliases::kind_named` meets its contract. Assumes nothing.
+-- `row_shapes::aliases::kind_named` meets its contract. Assumes nothing.
 use mathlib.Core.Path.{sym, _∙_}
 use mathlib.Core.Bool.{true, false}
 use Rattle.row_shapes.proofs.Judges.{named-language, named-script, named-region, named-variant}

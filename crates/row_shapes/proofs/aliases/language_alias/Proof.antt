@@ -1,4 +1,4 @@
--- `rows::aliases::language_alias` meets its contract. Assumes nothing.
+-- `row_shapes::aliases::language_alias` meets its contract. Assumes nothing.
 use native.Mathlib.Omega.{arith}
 use borrow.Author.Tests.{not-true, not-false}
 use mathlib.Core.Path.{sym, _∙_}

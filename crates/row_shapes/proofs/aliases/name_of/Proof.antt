@@ -1,4 +1,4 @@
--- `rows::aliases::name_of` meets its contract. Assumes nothing.
+-- `row_shapes::aliases::name_of` meets its contract. Assumes nothing.
 use mathlib.Core.Path.{sym, _∙_}
 use lib.Seq.{length-take-le}
 use Rattle.byte_string.proofs.Ends.{end-le}

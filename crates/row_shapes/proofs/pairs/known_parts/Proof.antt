@@ -1,4 +1,4 @@
--- `rows::pairs::known_parts` meets its contract. Assumes nothing.
+-- `row_shapes::pairs::known_parts` meets its contract. Assumes nothing.
 use borrow.Author.Needs.{needs}
 use native.Mathlib.Omega.{arith}
 use mathlib.Core.Path.{_≡_, sym, ap, _∙_}

@@ -1,4 +1,4 @@
--- `rows::pairs::pair_of` meets its contract. Assumes nothing.
+-- `row_shapes::pairs::pair_of` meets its contract. Assumes nothing.
 use borrow.Author.Needs.{needs}
 use native.Mathlib.Omega.{arith}
 use borrow.Author.Tests.{not-true, not-false, eqb-true}

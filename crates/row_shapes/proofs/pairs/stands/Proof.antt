@@ -1,4 +1,4 @@
--- `rows::pairs::stands` meets its contract. Assumes nothing.
+-- `row_shapes::pairs::stands` meets its contract. Assumes nothing.
 use borrow.Author.Needs.{needs}
 use Rattle.row_shapes.proofs.Texts.{stands-out}
 use Rattle.row_shapes.proofs.pairs.stands.Statement.{statement}

@@ -1,4 +1,4 @@
--- `rows::subtags::allows` meets its contract. Assumes nothing.
+-- `row_shapes::subtags::allows` meets its contract. Assumes nothing.
 use mathlib.Core.Path.{sym, ap, _∙_}
 use Rattle.row_shapes.specs.declared.subtags.Bytes.{Bytes}
 use Rattle.row_shapes.specs.Shapes.{allowed}

@@ -1,4 +1,4 @@
--- `rows::subtags::every` meets its contract. Assumes nothing.
+-- `row_shapes::subtags::every` meets its contract. Assumes nothing.
 use borrow.Author.Needs.{needs}
 use native.Mathlib.Omega.{arith}
 use mathlib.Core.Path.{_≡_, refl, sym, _∙_}

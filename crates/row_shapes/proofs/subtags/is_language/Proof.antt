@@ -1,4 +1,4 @@
--- `rows::subtags::is_language` meets its contract. Assumes nothing.
+-- `row_shapes::subtags::is_language` meets its contract. Assumes nothing.
 use mathlib.Core.Path.{_∙_}
 use Rattle.row_shapes.specs.Shapes.{allowed}
 use Rattle.row_shapes.proofs.Tags as tags

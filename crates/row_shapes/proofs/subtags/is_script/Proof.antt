@@ -1,4 +1,4 @@
--- `rows::subtags::is_script` meets its contract. Assumes nothing.
+-- `row_shapes::subtags::is_script` meets its contract. Assumes nothing.
 use borrow.Author.Tests.{not-true, not-false}
 use mathlib.Core.Path.{sym, _∙_}
 use native.Mathlib.Omega.{arith}

@@ -1,4 +1,4 @@
--- `rows::subtags::is_variant` meets its contract. Assumes nothing.
+-- `row_shapes::subtags::is_variant` meets its contract. Assumes nothing.
 use borrow.Author.Tests.{not-true, not-false}
 use native.Mathlib.Omega.{arith}
 use mathlib.Core.Path.{sym, _∙_}

@@ -1,4 +1,4 @@
--- `rows::subtags::is_word` meets its contract. Assumes nothing.
+-- `row_shapes::subtags::is_word` meets its contract. Assumes nothing.
 use mathlib.Core.Path.{sym, _∙_}
 use Rattle.row_shapes.specs.Shapes.{allowed}
 use borrow.Author.Needs.{needs}

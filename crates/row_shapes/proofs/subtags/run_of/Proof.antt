@@ -1,4 +1,4 @@
--- `rows::subtags::run_of` meets its contract. Assumes nothing.
+-- `row_shapes::subtags::run_of` meets its contract. Assumes nothing.
 use borrow.Author.Needs.{needs}
 use native.Mathlib.Omega.{arith}
 use mathlib.Core.Path.{_≡_, sym, _∙_}

@@ -1,4 +1,4 @@
--- `verdict::replaced::alias_free` meets its contract. Assumes nothing.
+-- `table_check::replaced::alias_free` meets its contract. Assumes nothing.
 use native.Mathlib.Omega.{arith}
 use mathlib.Core.Path.{_≡_, refl, sym, ap, ap₂, _∙_}
 use mathlib.Core.Bool.{not}

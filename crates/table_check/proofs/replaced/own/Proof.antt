@@ -1,4 +1,4 @@
--- `verdict::replaced::own` meets its contract, kind by kind. Assumes nothing.
+-- `table_check::replaced::own` meets its contract, kind by kind. Assumes nothing.
 use mathlib.Core.Path.{refl, sym}
 use Prim.Native.Nat.{zero-le}
 use lib.Seq.{length-take-le}

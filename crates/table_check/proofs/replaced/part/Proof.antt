@@ -1,4 +1,4 @@
--- `verdict::replaced::part` meets its contract. Assumes nothing.
+-- `table_check::replaced::part` meets its contract. Assumes nothing.
 use native.Mathlib.Omega.{arith}
 use mathlib.Core.Path.{_≡_, sym, ap}
 use Prim.Native.Nat.{ℕ, _+_, _-_}

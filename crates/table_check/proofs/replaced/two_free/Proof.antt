@@ -1,4 +1,4 @@
--- `verdict::replaced::two_free` meets its contract. Assumes nothing.
+-- `table_check::replaced::two_free` meets its contract. Assumes nothing.
 use native.Mathlib.Omega.{arith}
 use mathlib.Core.Path.{sym, ap, _∙_}
 use mathlib.Core.List.{List}

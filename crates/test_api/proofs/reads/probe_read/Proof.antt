@@ -1,4 +1,4 @@
--- `probe::reads::probe_read` meets its contract. Assumes nothing.
+-- `test_api::reads::probe_read` meets its contract. Assumes nothing.
 use mathlib.Core.Path.{_≡_}
 use Prim.Native.Nat.{_-_, _≤_}
 use native.Mathlib.Omega.{arith}

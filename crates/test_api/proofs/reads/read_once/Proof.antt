@@ -1,4 +1,4 @@
--- `probe::reads::read_once` meets its contract. Assumes nothing.
+-- `test_api::reads::read_once` meets its contract. Assumes nothing.
 use mathlib.Core.Path.{ap, _∙_}
 use Prim.Native.Nat.{ℕ, _+_, _*_, _%_}
 use Rattle.reader.specs.Words.{reportIs}

@@ -1,4 +1,4 @@
--- `probe::repeats::check_for` meets its contract. Assumes nothing.
+-- `test_api::repeats::check_for` meets its contract. Assumes nothing.
 use mathlib.Core.Path.{sym, _∙_}
 use Rattle.test_api.proofs.Repeated.{check-0, check-1, check-2, check-3}
 use borrow.Author.Needs.{needs}

@@ -1,4 +1,4 @@
--- `probe::repeats::once` meets its contract. Assumes nothing.
+-- `test_api::repeats::once` meets its contract. Assumes nothing.
 use mathlib.Core.Path.{sym, _∙_}
 use Rattle.operations.proofs.CompleteChecked.{tested-both}
 use Rattle.operations.proofs.ChainChecked.{tested-chain}

@@ -1,4 +1,4 @@
--- `probe::repeats::probe_repeat_hinted` meets its contract. Assumes nothing.
+-- `test_api::repeats::probe_repeat_hinted` meets its contract. Assumes nothing.
 use Rattle.operations.proofs.Delivers.{table-good}
 use Rattle.test_api.proofs.Repeated.{refused-for}
 use borrow.Author.Needs.{needs}
@@ -8,23 +8,23 @@ use Rattle.test_api.proofs.repeats.probe_repeat_hinted.Tie as tie
 check-for-requires : tie.Need-check-for-requires
 check-for-requires c κs = search needs
 
-enum-told : tie.Need-enum-told
-enum-told c = search needs
+enum-known-v : tie.Need-enum-known-v
+enum-known-v c = search needs
 
-enum-told-2 : tie.Need-enum-told-2
-enum-told-2 c = search needs
-
-refused-table-requires : tie.Need-refused-table-requires
-refused-table-requires c κs = search needs
+refuse-requires : tie.Need-refuse-requires
+refuse-requires c κs = search needs
 
 pack-requires : tie.Need-pack-requires
 pack-requires c κs = search needs
 
 returns : tie.Need-returns
 returns c =
-    let k = c .before .before .before .before .check-for in
-    let a = c .before .before .before .before .before .before .before .before .before .args in
-    refused-for (a .operation) (a .aliases .now) (a .other .now) (a .id .now) _ (k .result) (c .before .refused-table .result) (c .pack .result) (c .before .before .enum-told2 .given .1) (c .pack .ensures) (c .before .refused-table .ensures) (k .ensures)
+    let k = c .before .before .before .before .before .check-for in
+    let a = c .before .before .before .before .before .before .before .before .before .before .args in
+    refused-for (a .operation) (a .aliases .now) (a .other .now) (a .id .now) _ (k .result) (c .before .refuse .result) (c .pack .result) (c .before .before .before .v .given .1) (c .pack .ensures) (c .before .refuse .ensures) (k .ensures)
+
+enum-told : tie.Need-enum-told
+enum-told c = search needs
 
 many-requires : tie.Need-many-requires
 many-requires c κs = search needs
@@ -66,11 +66,11 @@ probe-repeat-hinted-spec =
     tie.close
     (tie.spec
     check-for-requires
-    enum-told
-    enum-told-2
-    refused-table-requires
+    enum-known-v
+    refuse-requires
     pack-requires
     returns
+    enum-told
     many-requires
     slice-aggregate-fill-hints
     fill-hints-requires
