@@ -1,4 +1,4 @@
--- Laws of the first that is present of two subtags. Assumes nothing.
+-- Laws of the first that is present of two subtags, one of them put in its case. Assumes nothing.
 use mathlib.Core.Path.{_≡_, refl, ap}
 use mathlib.Core.List.{[], _∷_}
 use Prim.Native.Nat.{ℕ, _≤_, _<_}
@@ -8,7 +8,7 @@ use Rattle.standard.specs.Tag.{Tag, pick}
 use Rattle.subtag.specs.Bytes.{cased}
 use Rattle.subtag.proofs.Raised.{raised-length, raised-nil}
 
--- the first that is present, of a raised one
+-- the first that is present, where the first is put in its case
 pub pick-none : (n : ℕ) (t y : Tag) → length t ≡ 0 → pick (cased n t) y ≡ y
 unfolding pick
 pick-none n [] y h = ap (λ (x : Tag). pick x y) (raised-nil n)

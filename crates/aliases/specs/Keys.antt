@@ -1,4 +1,4 @@
--- Keys of aliases.
+-- The keys of the alias table, by kind, and whether a subtag is one.
 -- Assumes nothing.
 use mathlib.Core.Bool.{Bool}
 use mathlib.Core.List.{List, [], _∷_, _++_}

@@ -44,10 +44,12 @@ unfoldable pub keyOfAnswer : Answer → Option Tag
 keyOfAnswer (done m) = some (printThree (m .core))
 keyOfAnswer (refused n) = none
 
+-- of an identifier as it was read
 unfoldable pub keyOfRead : Tables → Read → Option Tag
 keyOfRead T (good i) = keyOfAnswer (minimised T i)
 keyOfRead T (bad n p) = none
 
+-- of an identifier
 unfoldable pub keyOf : Tables → Bytes → Option Tag
 keyOf T x = keyOfRead T (read x)
 
@@ -57,10 +59,12 @@ usageBy none k = none
 usageBy (some m) none = none
 usageBy (some m) (some k) = some (record { member = m; key = k })
 
+-- of a member and an identifier, where there is one
 unfoldable pub usageAt : Tables → Option ℕ → Option Bytes → Option Usage
 usageAt T m none = none
 usageAt T m (some x) = usageBy m (keyOf T x)
 
+-- what a usage line says
 unfoldable pub usage : Tables → Bytes → Option Usage
 usage T l = usageAt T (memberOf (beforeTab l)) (afterTab l)
 
@@ -74,14 +78,17 @@ unfoldable pub accepted : {A : Type 0} → Option A → List A → List A
 accepted none us = us
 accepted (some u) us = u ∷ us
 
+-- of all accepted lines
 unfoldable pub usages : Tables → List Bytes → List Usage
 usages T [] = []
 usages T (l ∷ ls) = accepted (usage T l) (usages T ls)
 
+-- whether a line is refused
 unfoldable pub refusing : {A : Type 0} → Option A → Bool
 refusing none = true
 refusing (some u) = false
 
+-- how many lines are refused
 unfoldable pub refusals : Tables → List Bytes → ℕ
 refusals T [] = 0
 refusals T (l ∷ ls) = more (refusing (usage T l)) (refusals T ls)
@@ -105,14 +112,17 @@ unfoldable pub membersUpTo : ℕ → Tag → List Usage → ℕ
 membersUpTo zero k us = 0
 membersUpTo (suc n) k us = more (used k (suc n) us) (membersUpTo n k us)
 
+-- 02, T-01: of members 1 to 64
 unfoldable pub members : Tag → List Usage → ℕ
 members k us = membersUpTo 64 k us
 
+-- A row of a bill.
 pub record Row : Type 0 where
   pub key : Tag
   pub members : ℕ
   pub deliveries : ℕ
 
+-- the row of a key
 unfoldable pub rowOf : List Usage → Tag → Row
 rowOf us k = record { key = k; members = members k us; deliveries = deliveries k us }
 
@@ -121,9 +131,11 @@ pub data Bill : Type 0 where
   bill : List Row → ℕ → Bill
   refusedWith : ℕ → Bill
 
+-- 02, T-01: a bill has at most 512 keys
 unfoldable pub mostKeys : ℕ
 mostKeys = 512
 
+-- 02, T-01: and at most 1,000,000 lines
 unfoldable pub mostLines : ℕ
 mostLines = 1000000
 
@@ -144,18 +156,22 @@ unfoldable pub tripleOfAnswer : Answer → Option Three
 tripleOfAnswer (done m) = some (m .core)
 tripleOfAnswer (refused n) = none
 
+-- of an identifier as it was read
 unfoldable pub tripleOfRead : Tables → Read → Option Three
 tripleOfRead T (good i) = tripleOfAnswer (maximised T i)
 tripleOfRead T (bad n p) = none
 
+-- of an accepted line alone
 unfoldable pub tripleBy : Tables → Option Usage → Option Bytes → Option Three
 tripleBy T none x = none
 tripleBy T (some u) none = none
 tripleBy T (some u) (some x) = tripleOfRead T (read x)
 
+-- of a usage line
 unfoldable pub triple : Tables → Bytes → Option Three
 triple T l = tripleBy T (usage T l) (afterTab l)
 
+-- of all accepted lines, in their order
 unfoldable pub triples : Tables → List Bytes → List Three
 triples T [] = []
 triples T (l ∷ ls) = accepted (triple T l) (triples T ls)
@@ -165,6 +181,7 @@ unfoldable pub oneOf : Three → List Three → Bool
 oneOf t [] = false
 oneOf t (u ∷ us) = sameThree t u || oneOf t us
 
+-- how many different triples there are
 unfoldable pub differentThrees : List Three → ℕ
 differentThrees [] = 0
 differentThrees (t ∷ ts) = more (not (oneOf t ts)) (differentThrees ts)

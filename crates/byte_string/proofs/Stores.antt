@@ -1,4 +1,4 @@
--- Laws of runs of stores. Assumes nothing.
+-- Laws of bytes written one behind the other: runs of stores. Assumes nothing.
 use mathlib.Core.Path.{_≡_, refl, sym, ap, ap₂, _∙_}
 use mathlib.Core.List.{List, [], _∷_, _++_, map}
 use Prim.Native.Nat.{ℕ, suc, _+_, _-_, _≤_, _<_}

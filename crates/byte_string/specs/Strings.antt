@@ -1,4 +1,4 @@
--- The order of byte strings as the code answers it, and the first place of a byte.
+-- The order of byte strings as the code answers it, the first place of a byte, and what is written at a place.
 -- Assumes nothing.
 use mathlib.Core.Bool.{cond}
 use mathlib.Core.List.{[], _∷_, List}

@@ -1,4 +1,4 @@
-// Inner. Byte strings. Their order, the first place of a byte, and bytes written at a place.
+// Inner. Byte strings: their order, the first place of a byte, and bytes written at a place.
 ghost use mathlib.Core.Path.{_≡_};
 ghost use Prim.Native.Nat.{_+_, _≤_, _<_};
 ghost use lib.ListN.{length};

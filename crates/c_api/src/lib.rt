@@ -1,5 +1,5 @@
-// The four functions for a host program in C, over lent bytes. An answer is one number: bits 0 to 7 the number, 8 to 15
-// the table, 16 to 31 the place, 32 to 55 the length, 56 to 63 the steps.
+// Public. The four functions for a host program in C, over lent bytes. An answer is one number: bits 0 to 7 the number, 8
+// to 15 the table, 16 to 31 the place, 32 to 55 the length, 56 to 63 the steps.
 use operations::delivery::Answer;
 ghost use mathlib.Core.Path.{_≡_};
 ghost use Prim.Native.Nat.{_<_};

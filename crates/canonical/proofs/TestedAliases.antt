@@ -1,4 +1,4 @@
--- What the check of the aliases gives to the canonical form. Assumes nothing.
+-- What the canonical form has from aliases that passed the check: they ascend. Assumes nothing.
 use mathlib.Core.Path.{_≡_}
 use mathlib.Core.List.{List, []}
 use mathlib.Core.Option.{none}

@@ -59,10 +59,12 @@ unfoldable pub formed : Answer → Outcome
 formed (done c) = form (formOf c) (print c)
 formed (refused n) = refusal n 0
 
+-- of what was read; a refusal of reading stands
 unfoldable pub canonicalOf : Tables → Read → Outcome
 canonicalOf T (good i) = formed (canonical T i)
 canonicalOf T (bad n p) = refusal n p
 
+-- of an identifier, over these aliases
 unfoldable pub outcome : List ℕ → List ℕ → Outcome
 outcome A x = canonicalOf (tablesOf A [] []) (read x)
 

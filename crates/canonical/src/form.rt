@@ -1,5 +1,5 @@
-// The canonical form of an identifier over aliases that were tested, in a lent buffer. The public operations of this
-// crate and of those above it come through here; none of them tests a table twice.
+// The canonical form of an identifier over aliases that were tested, in a lent buffer. All operations come through here;
+// none of them tests a table twice.
 use crate::lsr::write_three;
 use crate::variants::write_variants;
 use canonical_order::extensions::write_extensions;

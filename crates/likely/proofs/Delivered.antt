@@ -1,4 +1,4 @@
--- Laws of lengths and of delivery that the proofs of the functions cite. Assumes nothing.
+-- Laws of a form's length, and of its delivery by parts. Assumes nothing.
 use mathlib.Core.Path.{_≡_, refl, sym, ap, ap₂, _∙_}
 use mathlib.Core.Bool.{Bool, true, false, cond}
 use mathlib.Core.List.{[], _∷_, _++_}

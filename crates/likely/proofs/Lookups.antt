@@ -1,4 +1,4 @@
--- Laws that the functions' proofs cite. Assumes nothing.
+-- Laws of the rows that are found by parts, and of their values, cut. Assumes nothing.
 use mathlib.Core.Path.{_≡_, refl, sym, ap, ap₂, _∙_}
 use mathlib.Core.Bool.{Bool, true, false, cond, not, _&&_}
 use mathlib.Core.List.{[], _∷_, _++_, append-nil}

@@ -19,6 +19,7 @@ givenBy NoRow out = record { number = 8; place = 0; table = 0; len = 0; steps = 
 givenBy Long out = record { number = 9; place = 0; table = 0; len = 0; steps = 0; output = out }
 givenBy Short out = record { number = 10; place = 0; table = 0; len = 0; steps = 0; output = out }
 
+-- a length, or 256 where it is over 255
 unfoldable pub lengthOr256 : ℕ → ℕ
 lengthOr256 n = cond (leb n 255) n 256
 
@@ -26,9 +27,11 @@ lengthOr256 n = cond (leb n 255) n 256
 unfoldable pub shortForm : Bytes → Made → Made
 shortForm x m = cond (leb (length x) 255) m (refusal 9 0 0)
 
+-- the bytes of a form: its parts, and the rest
 unfoldable pub bytesOf : Parts → Bytes → Bytes
 bytesOf p rest = joinedParts p ++ rest
 
+-- what is made of the bytes of a form
 unfoldable pub madeForm : Bytes → Made
 madeForm x = shortForm x (form x)
 
@@ -40,10 +43,12 @@ keptIf b L q = cond b (minimalParts L q) q
 unfoldable pub madeOf : Bool → Bytes → Bytes → Parts → Made
 madeOf b L rest q = shortForm (bytesOf q rest) (form (bytesOf (keptIf b L q) rest))
 
+-- number 8: no row
 unfoldable pub madeFilled : Bool → Bytes → Bytes → Option Parts → Made
 madeFilled b L rest none = refusal 8 0 0
 madeFilled b L rest (some q) = madeOf b L rest q
 
+-- what is made of the parts of a canonical form
 unfoldable pub madeParts : Bool → Bytes → Bytes → Parts → Made
 madeParts b L rest p = madeFilled b L rest (fillParts L (knownParts p))
 

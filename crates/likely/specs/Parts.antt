@@ -17,14 +17,17 @@ unfoldable pub ledPart : Tag → Bytes
 ledPart [] = []
 ledPart (b ∷ bs) = 45 ∷ b ∷ bs
 
+-- Language, script and region as bytes.
 pub record Parts : Type 0 where
   pub language : Bytes
   pub script : Bytes
   pub region : Bytes
 
+-- the parts of the three
 unfoldable pub partsOf : Three → Parts
 partsOf t = record { language = t .language; script = ledPart (t .script); region = ledPart (t .region) }
 
+-- one after the other: the key of a lookup
 unfoldable pub joinedParts : Parts → Bytes
 joinedParts p = p .language ++ (p .script ++ p .region)
 
@@ -32,6 +35,7 @@ joinedParts p = p .language ++ (p .script ++ p .region)
 unfoldable pub knownPart : Bytes → Bytes → Bytes
 knownPart unknown p = cond (same p unknown) [] p
 
+-- the parts without `Zzzz` and `ZZ`
 unfoldable pub knownParts : Parts → Parts
 knownParts p = record {
   language = p .language;
@@ -39,6 +43,7 @@ knownParts p = record {
   region = knownPart (45 ∷ 90 ∷ 90 ∷ []) (p .region);
 }
 
+-- nothing is missing: the language is not `und`, and script and region are there
 unfoldable pub completeParts : Parts → Bool
 completeParts p = not (same (p .language) und) && (present (p .script) && present (p .region))
 
@@ -52,11 +57,13 @@ pub record Ready (L hints : Bytes) (p : Parts) : Type 0 where
   pub indexed : Indexed L hints
   pub short : length (p .language) + length (p .script) + length (p .region) ≤ 32
 
--- 01, Maximising: the value of the first row: language-script-region; language-script, language-region, language
+-- where language-script-region has no row: the first of language-script, language-region, language that has one
 unfoldable pub shorterValue : Bytes → Parts → Option Bytes
 shorterValue L p =
     orValue (lookup (rows L) (p .language ++ p .script)) (orValue (lookup (rows L) (p .language ++ p .region)) (lookup (rows L) (p .language)))
 
+-- 01, Maximising: the value of the first row: language-script-region, language-script, language-region, language. A missing
+-- part is empty, so that a form which names it is one of the others again.
 unfoldable pub rowValue : Bytes → Parts → Option Bytes
 rowValue L p = orValue (lookup (rows L) (p .language ++ (p .script ++ p .region))) (shorterValue L p)
 
@@ -65,6 +72,7 @@ unfoldable pub dashFrom : ℕ → Bytes → ℕ
 dashFrom at [] = at
 dashFrom at (b ∷ bs) = elim (eqb b 45) [ true ↦ at | false ↦ dashFrom (at + 1) bs ]
 
+-- the same, in a value
 unfoldable pub dash : Bytes → ℕ → ℕ
 dash v at = dashFrom at (drop at v)
 
@@ -75,6 +83,7 @@ cutParts v =
     let b = dash v (a + 1) in
     record { language = take a v; script = take (b - a) (drop a v); region = drop b v }
 
+-- the parts of a value, cut at two places
 unfoldable pub cutAt : Bytes → ℕ → ℕ → Parts
 cutAt v a b = record { language = take a v; script = take (b - a) (drop a v); region = drop b v }
 
@@ -90,6 +99,7 @@ overParts p v = record {
   region = pick (p .region) (v .region);
 }
 
+-- the parts completed by a row's value, where there is a row
 unfoldable pub overValue : Parts → Option Bytes → Option Parts
 overValue p none = none
 overValue p (some v) = some (overParts p (cutParts v))
@@ -107,12 +117,15 @@ unfoldable pub fitsValue : Parts → Parts → Option Bytes → Bool
 fitsValue m p none = false
 fitsValue m p (some v) = same (pick (p .script) ((cutParts v) .script)) (m .script) && same (pick (p .region) ((cutParts v) .region)) (m .region)
 
+-- by the first row for the trial
 unfoldable pub fitsParts : Bytes → Parts → Parts → Bool
 fitsParts L m p = fitsValue m p (rowValue L p)
 
+-- parts, of these bytes
 abbrev pub parts3 : Bytes → Bytes → Bytes → Parts
 parts3 l s r = record { language = l; script = s; region = r }
 
+-- 01, Minimising: the first trial that has the script and region of m, or m
 unfoldable pub minimalParts : Bytes → Parts → Parts
 minimalParts L m =
     let l = parts3 (m .language) [] [] in

@@ -32,9 +32,11 @@ span (l ∷ ls) = length l + 1 + span ls
 unfoldable pub pieceText : (Bytes → Bytes) → ℕ → ℕ → Bytes → Bytes
 pieceText row need room x = rowsText row (answered row need room (lines x))
 
+-- the lesser of the two
 unfoldable pub atMost : ℕ → ℕ → ℕ
 atMost n m = n - (n - m)
 
+-- how many bytes of a piece are answered
 unfoldable pub pieceUsed : (Bytes → Bytes) → ℕ → ℕ → Bytes → ℕ
 pieceUsed row need room x = atMost (length x) (span (answered row need room (lines x)))
 

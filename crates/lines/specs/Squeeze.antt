@@ -7,6 +7,7 @@ use lib.Dec.{eqb, ltb}
 use lib.ListN.{length, take, drop}
 use Rattle.table.specs.Lines.{lines}
 
+-- bytes of an input
 abbrev pub Bytes : Type 0
 Bytes = List ℕ
 
@@ -24,6 +25,7 @@ unfoldable pub squeezed : ℕ → Bytes → Bytes
 squeezed run [] = []
 squeezed run (b ∷ x) = kept run b ++ squeezed (nextRun run b) x
 
+-- how many bytes of the last line are kept
 unfoldable pub runAfter : ℕ → Bytes → ℕ
 runAfter run [] = run
 runAfter run (b ∷ x) = runAfter (nextRun run b) x
@@ -32,6 +34,7 @@ runAfter run (b ∷ x) = runAfter (nextRun run b) x
 unfoldable pub takenIn : Bytes → Bytes → Bytes
 takenIn u b = u ++ squeezed (length u) b
 
+-- how many bytes its whole lines have
 unfoldable pub wholeLength : Bytes → Bytes → ℕ
 wholeLength u b = length (takenIn u b) - runAfter (length u) b
 
@@ -41,17 +44,21 @@ unfoldable pub handedOver : Bytes → List Bytes → List Bytes
 handedOver u [] = []
 handedOver u (b ∷ bs) = take (wholeLength u b) (takenIn u b) ∷ handedOver (drop (wholeLength u b) (takenIn u b)) bs
 
+-- the unfinished line after these blocks
 unfoldable pub unfinished : Bytes → List Bytes → Bytes
 unfinished u [] = u
 unfinished u (b ∷ bs) = unfinished (drop (wholeLength u b) (takenIn u b)) bs
 
+-- all that is handed over
 unfoldable pub handed : Bytes → List Bytes → List Bytes
 handed u bs = handedOver u bs ++ (unfinished u bs ∷ [])
 
+-- the lines of all pieces
 unfoldable pub allLines : List Bytes → List Bytes
 allLines [] = []
 allLines (x ∷ xs) = lines x ++ allLines xs
 
+-- the blocks as one input
 unfoldable pub together : List Bytes → Bytes
 together [] = []
 together (x ∷ xs) = x ++ together xs

@@ -1,4 +1,4 @@
--- From the tables' check to the whole operation. Assumes nothing.
+-- From the tables' check to maximising and minimising whole. Assumes nothing.
 use mathlib.Core.Path.{_≡_, refl, sym, ap, _∙_, subst}
 use mathlib.Core.Bool.{Bool, true, false}
 use mathlib.Core.List.{[]}

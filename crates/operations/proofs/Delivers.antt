@@ -1,4 +1,4 @@
--- Laws of delivery; and what canonicalising over tested aliases makes. Assumes nothing.
+-- Laws of delivery; what canonicalising over tested aliases makes; and the tables' refusals before it. Assumes nothing.
 use mathlib.Core.Path.{_≡_, refl, sym, ap, _∙_}
 use mathlib.Core.List.{List, [], _++_}
 use mathlib.Core.Option.{Option, none}

@@ -1,5 +1,5 @@
 -- Operations over tables that passed the check: what they make is printable, the aliases among the tables passed alone, and
--- what is answered is the whole operation's answer. The crates above cite this for each operation. Assumes nothing.
+-- what is answered is the whole operation's answer. Assumes nothing.
 use mathlib.Core.Path.{_≡_, sym, ap, _∙_}
 use mathlib.Core.List.{List}
 use mathlib.Core.Option.{Option, none}

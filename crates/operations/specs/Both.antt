@@ -16,6 +16,7 @@ pub record TestedBoth (A L : Bytes) : Type 0 where
   pub aliases : Tested A
   pub likely : Sorted L
 
+-- maximising, or with true minimising
 unfoldable pub operationOf : Bool → Operation
 operationOf false = maximise
 operationOf true = minimise

@@ -28,6 +28,7 @@ givenListed r out =
     cond (r .fits) (record { number = 0; place = 0; table = 0; len = r .end; steps = r .steps; output = out })
     (record { number = 10; place = 0; table = 0; len = 0; steps = 0; output = out })
 
+-- what is given back: canonicalising's refusal stands, or the listing
 unfoldable pub givenAnswered : Answered → Bytes → Given
 givenAnswered (Refused r) out = givenRefused r out
 givenAnswered (Lines r) out = givenListed r out

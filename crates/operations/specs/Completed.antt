@@ -9,6 +9,7 @@ use Rattle.operations.specs.declared.delivery.Answer.{Answer}
 use Rattle.likely.specs.declared.forms.Outcome.{Outcome}
 use Rattle.likely.specs.declared.forms.Outcome.the-variants.{Done, NoRow, Long, Short}
 
+-- what is given back: canonicalising's refusal stands, or what was made
 unfoldable pub givenAnswered : Answered → Bytes → Given
 givenAnswered (Refused r) out = givenRefused r out
 givenAnswered (Made o) out = givenBy o out

@@ -1,4 +1,4 @@
-// Canonicalising over aliases that passed the check.
+// Canonicalising over aliases that were tested. The library comes through here.
 use crate::delivery::Answer;
 use crate::delivery::deliver;
 use crate::delivery::refused;

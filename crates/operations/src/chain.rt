@@ -1,4 +1,4 @@
-// The chain of parents over tables that were tested. The public operation comes through here.
+// The chain of parents over tables that were tested. The library comes through here.
 use crate::delivery::Answer;
 use crate::delivery::refuse;
 use crate::delivery::refused;

@@ -1,4 +1,4 @@
-// Maximising and minimising over tables that were tested. The public operations and the programs come through here.
+// Maximising and minimising over tables that were tested. The library and the libraries of lines come through here.
 use crate::delivery::Answer;
 use crate::delivery::refuse;
 use crate::delivery::refused;

@@ -1,4 +1,4 @@
--- Laws that the proofs of the functions cite. Assumes nothing.
+-- Laws of the lines of a chain, written on the way back. Assumes nothing.
 use mathlib.Core.Path.{_≡_, refl, sym, ap, ap₂, _∙_}
 use mathlib.Core.Bool.{Bool, true, false, cond}
 use mathlib.Core.List.{List, [], _∷_, _++_, append-assoc}

@@ -22,6 +22,7 @@ outAfter at out ls = cond (leb (at + length (listing ls)) (length out)) (sets ou
 unfoldable pub added : Listed → Listed
 added r = record { fits = r .fits; end = r .end; steps = r .steps + 1 }
 
+-- and written, where all of it fits
 unfoldable pub outAdded : Listed → Bytes → ℕ → Bytes → Bytes
 outAdded r out at x = cond (r .fits) (sets out at (x ++ (10 ∷ []))) out
 

@@ -16,6 +16,7 @@ unfoldable pub lastBelow : ℕ → Bytes → ℕ
 lastBelow zero x = length x
 lastBelow (suc i) x = elim (eqb (getD x i 0) 45) [ true ↦ i | false ↦ lastBelow i x ]
 
+-- the last index with a `-`, or the length
 unfoldable pub lastDash : Bytes → ℕ
 lastDash x = lastBelow (length x) x
 
@@ -23,6 +24,7 @@ lastDash x = lastBelow (length x) x
 unfoldable pub withoutLast : Bytes → Bytes
 withoutLast x = elim (ltb (lastDash x) (length x)) [ true ↦ take (lastDash x) x | false ↦ und ]
 
+-- a row's value, or the text without its last subtag
 unfoldable pub parentBy : Option Bytes → Bytes → Bytes
 parentBy none x = withoutLast x
 parentBy (some w) x = w
@@ -32,6 +34,7 @@ unfoldable pub rowText : Bytes → ℕ → Bytes → Option Bytes
 rowText P zero x = lookup (rows P) x
 rowText P (suc v) x = none
 
+-- the parent of a line with v variants
 unfoldable pub parentText : Bytes → ℕ → Bytes → Bytes
 parentText P v x = parentBy (rowText P v x) x
 

@@ -1,4 +1,4 @@
--- The walk of parents over texts: each text is a part of the table.
+-- The walk of parents that the check takes, over texts: each text is a part of the table.
 -- Assumes nothing.
 use mathlib.Core.Path.{_≡_}
 use mathlib.Core.Bool.{Bool, true, false}

@@ -1,4 +1,4 @@
-// The walk of parents over the texts of the parent table.
+// The walk of parents that the check takes (14), over the texts of the parent table.
 use table::hints::find_hinted;
 use table::hints::hint;
 use table::hints::opens;

@@ -1,4 +1,5 @@
-// Tables opened by the programs, in the current folder. A file that can't be opened counts as zero bytes.
+// Inner, for the programs, and the one library that calls the operating system: tables opened in the current folder, where
+// a file that can't be opened counts as zero bytes; the `table` line printed; standard input (`input`).
 pub mod input;
 
 use libc::STDOUT_FILENO;

@@ -34,6 +34,7 @@ kindStage kinds.Region = Region
 kindStage kinds.Variant = Variant
 kindStage kinds.Neither = Language
 
+-- script, region and variants, in this order; after `root` none of them
 abbrev pub accepts : Stage → Kind → Bool
 accepts Language kinds.Script = true
 accepts Language kinds.Region = true
@@ -64,24 +65,31 @@ scriptFirst aRegion = Misplaced
 scriptFirst aVariant = Misplaced
 scriptFirst aNone = Misplaced
 
+-- the first subtag
 unfoldable pub firstFrom : Subtag → State
 firstFrom t = elim (languageFrom t) [ true ↦ Main Language | false ↦ elim (eqb (t .key) rootKey) [ true ↦ Main Root | false ↦ scriptFirst (kindFrom t) ] ]
 
+-- a later subtag of a language part
 unfoldable pub stageFrom : (Stage → State) → Stage → Subtag → State
 stageFrom here s t = placed here (accept (stageOf s) (kindFrom t)) (kindFrom t)
 
+-- in the language part of `t`
 unfoldable pub partFrom : Stage → Subtag → State
 partFrom s t = elim (fieldFrom t) [ true ↦ Key | false ↦ stageFrom Part s t ]
 
+-- in `u`
 unfoldable pub keywordsFrom : Subtag → State
 keywordsFrom t = elim (eqb (t .len) 2 && not (keywordFrom t)) [ true ↦ Misplaced | false ↦ Keywords ]
 
+-- straight after `t`
 unfoldable pub transformFrom : Subtag → State
 transformFrom t = elim (fieldFrom t) [ true ↦ Key | false ↦ elim (languageFrom t) [ true ↦ Part Language | false ↦ Misplaced ] ]
 
+-- in a field, where the next key leads to `key`
 unfoldable pub valueFrom : State → Subtag → State
 valueFrom key t = elim (fieldFrom t) [ true ↦ key | false ↦ elim (eqb (t .len) 2) [ true ↦ Misplaced | false ↦ Field ] ]
 
+-- a subtag that is no singleton
 unfoldable pub otherFrom : State → Subtag → State
 otherFrom First t = firstFrom t
 otherFrom (Main s) t = stageFrom Main s t
@@ -98,9 +106,11 @@ otherFrom Privates t = Privates
 otherFrom Misplaced t = Misplaced
 otherFrom Unfinished t = Unfinished
 
+-- what a singleton begins, by its byte
 unfoldable pub opensFrom : ℕ → State
 opensFrom b = elim (eqb b 117) [ true ↦ Unicode | false ↦ elim (eqb b 116) [ true ↦ Transform | false ↦ elim (eqb b 120) [ true ↦ Private | false ↦ Other ] ] ]
 
+-- the transition
 unfoldable pub nextFrom : State → Subtag → State
 nextFrom st t = elim (eqb (t .len) 1) [ true ↦ afterSingleton st (opensFrom (t .first)) | false ↦ otherFrom st t ]
 

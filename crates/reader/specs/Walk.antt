@@ -123,6 +123,7 @@ stageVerdict Region = Plain
 stageVerdict Variant = Listed
 stageVerdict Root = Plain
 
+-- the same of any state
 abbrev pub verdictOf : State → Verdict
 verdictOf First = Plain
 verdictOf (Main s) = stageVerdict s
@@ -139,6 +140,7 @@ verdictOf Privates = Plain
 verdictOf Misplaced = verdicts.Misplaced
 verdictOf Unfinished = verdicts.Unfinished
 
+-- number 6
 unfoldable pub repeated : ℕ → Bool → Option Fault
 repeated at true = fault 6 at
 repeated at false = none
@@ -151,6 +153,7 @@ verdictFault Singleton singles listed back at t = repeated at (member t singles)
 verdictFault Listed singles listed back at t = repeated at (member t listed)
 verdictFault Plain singles listed back at t = none
 
+-- the singletons after the subtag
 unfoldable pub singlesAfter : Verdict → Tag → List Tag → List Tag
 singlesAfter verdicts.Misplaced t singles = singles
 singlesAfter verdicts.Unfinished t singles = singles
@@ -182,6 +185,7 @@ abbrev pub firstCut : Start → ℕ → Parts → Parts
 firstCut start end p =
     record { start = start; language = end; script = end; region = end; variants = end; extensions = end; «variant_count» = p .«variant_count»; «extension_count» = p .«extension_count» }
 
+-- in the main language part
 unfoldable pub cutStage : Stage → ℕ → Parts → Parts
 cutStage Language end p = firstCut starts.Language end p
 cutStage Script end p =
@@ -192,10 +196,12 @@ cutStage Variant end p =
     record { start = p .start; language = p .language; script = p .script; region = p .region; variants = end; extensions = end; «variant_count» = p .«variant_count» + 1; «extension_count» = p .«extension_count» }
 cutStage Root end p = firstCut starts.Root end p
 
+-- in the extensions
 unfoldable pub extended : ℕ → Parts → Parts
 extended end p =
     record { start = p .start; language = p .language; script = p .script; region = p .region; variants = p .variants; extensions = end; «variant_count» = p .«variant_count»; «extension_count» = p .«extension_count» }
 
+-- in any state
 unfoldable pub cut : State → ℕ → Parts → Parts
 cut First end p = p
 cut (Main s) end p = cutStage s end p
@@ -212,6 +218,7 @@ cut Privates end p = p
 cut Misplaced end p = p
 cut Unfinished end p = p
 
+-- the number of extensions, at the end
 unfoldable pub counted : ℕ → Parts → Parts
 counted n p =
     record { start = p .start; language = p .language; script = p .script; region = p .region; variants = p .variants; extensions = p .extensions; «variant_count» = p .«variant_count»; «extension_count» = n }

@@ -28,6 +28,7 @@ use lib.Dec.{leb}
 unfoldable pub isKnown : List ℕ → Bool
 isKnown v = isThree v && (complete (parse v) && sameThree (withoutUnknown (parse v)) (parse v))
 
+-- the same, by its three
 unfoldable pub knownParts : Tag → Tag → Tag → Bool
 knownParts l s r = cond (present s) (cond (present r) (cond (same l und) false (cond (same s zzzz) false (not (same r zz)))) false) false
 
@@ -44,17 +45,21 @@ regionName = text "region"
 abbrev pub variantName : Tag
 variantName = text "variant"
 
+-- the one kind or the other
 abbrev pub pickKind : Bool → AliasKind → AliasKind → AliasKind
 pickKind true a b = a
 pickKind false a b = b
 
+-- the kind of an alias, by its name
 unfoldable pub kindNamed : Tag → AliasKind
 kindNamed w =
     pickKind (same w languageName) Language (pickKind (same w scriptName) Script (pickKind (same w regionName) Region (pickKind (same w variantName) Variant Unknown)))
 
+-- a `language` row, by key and value
 unfoldable pub languageAlias : Tag → Tag → Bool
 languageAlias key value = isLanguage key && not (same key und) && (isThree value && not (languageIsUnd (parse value)))
 
+-- an alias row of a kind, by key and value
 unfoldable pub shapeBy : AliasKind → Tag → Tag → Bool
 shapeBy Language key value = languageAlias key value
 shapeBy Script key value = isScript key && isScript value
@@ -72,6 +77,7 @@ kindIs Parents = parents
 unfoldable pub secondTab : List ℕ → ℕ → ℕ
 secondTab l a = cond (leb (length l) a) a (endOf 9 l (a + 1))
 
+-- the place where the key of a row ends
 unfoldable pub keyEnd : Table → List ℕ → ℕ
 keyEnd Aliases l = secondTab l (endOf 9 l 0)
 keyEnd Likely l = endOf 9 l 0
@@ -90,6 +96,7 @@ pub record PairIn (s : List ℕ) (r : Pair) : Type 0 where
   pub value : ThreeAt (between s (r .tab) (r .end)) (record { ok = true; language = r .language; script = r .script })
   pub text : s ≡ take (r .tab) s ++ (9 ∷ (between s (r .tab) (r .end) ++ (10 ∷ drop (r .end + 1) s)))
 
+-- whether they are there
 pub record PairAt (s : List ℕ) (r : Pair) : Type 0 where
   pub yes : r .ok ≡ true → PairIn s r
   pub no : r .ok ≡ false → (k v z : List ℕ) → s ≡ k ++ (9 ∷ (v ++ (10 ∷ z))) → isThree k ≡ true → isThree v ≡ true → ⊥
@@ -101,6 +108,7 @@ pub record LineIn (table : Table) (s : List ℕ) (r : Line) : Type 0 where
   pub shape : shapeOf (kindIs table) (pieces 9 (take (r .end) s)) ≡ true
   pub key : r .key ≡ keyEnd table (take (r .end) s)
 
+-- whether there is one
 pub record LineAt (table : Table) (s : List ℕ) (r : Line) : Type 0 where
   pub yes : r .ok ≡ true → LineIn table s r
   pub no : r .ok ≡ false → endOf 10 s 0 < length s → shapeOf (kindIs table) (pieces 9 (take (endOf 10 s 0) s)) ≡ true → ⊥

@@ -281,12 +281,13 @@ pub list-proper : (A P : Bytes) (x : Bytes) → Proper (listMade A P x)
 unfolding listMade
 list-proper A P x = after-proper _ _ (check-within toChain A [] P) (chain-proper _ x)
 
--- 01, The words of demand 3: an operation answers 0 or 10 where there is a result, whatever the output lent.
+-- a result is made: there is a form, or a listing
 pub record Made-of (m : Made) : Type 0 where
   pub bytes : Bytes
   pub steps : ℕ
   pub are : m ≡ result bytes steps
 
+-- 01, The words of demand 3: the answer is 0 or 10 exactly where there is a result, whatever the output lent.
 pub answers : (m : Made) (out : Bytes) → Proper m → ZeroOrTen ((given m out) .number) ↔ Made-of m
 unfolding given ZeroOrTen Proper
 answers (result r s) out h = ((λ _. record { bytes = r; steps = s; are = refl }), (λ _. go (leb (length r) (length out)) refl))

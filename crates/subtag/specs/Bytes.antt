@@ -1,4 +1,4 @@
--- The class of a byte, by the standard's ranges.
+-- The class of a byte, by the standard's ranges; and its letter case.
 -- Assumes nothing.
 use mathlib.Core.Bool.{Bool, true, false, cond}
 use mathlib.Core.List.{[], _∷_}
@@ -9,10 +9,12 @@ use Rattle.standard.specs.Grammar.{small, capital, digit, separator, lowerByte,
 use Rattle.subtag.specs.declared.Class.{Class}
 use Rattle.subtag.specs.declared.Class.the-variants.{Small, Capital, Digit, Separator, Other}
 
+-- the one class or the other
 abbrev pub pickClass : Bool → Class → Class → Class
 pickClass true a b = a
 pickClass false a b = b
 
+-- the class of a byte
 unfoldable pub classOf : ℕ → Class
 classOf b = pickClass (digit b) Digit (pickClass (capital b) Capital (pickClass (small b) Small (pickClass (separator b) Separator Other)))
 

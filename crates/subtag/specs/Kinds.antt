@@ -9,19 +9,24 @@ use Rattle.subtag.specs.declared.Subtag.{Subtag}
 use Rattle.subtag.specs.declared.Kind.{Kind}
 use Rattle.subtag.specs.declared.Kind.the-variants.{Script, Region, Variant, Neither}
 
+-- the size, from the length
 unfoldable pub sizeFrom : ℕ → Size
 sizeFrom n =
     cond (eqb n 0) size0 (cond (eqb n 1) size1 (cond (eqb n 2) size2 (cond (eqb n 3) size3 (cond (eqb n 4) size4 (cond (leb n 8) size5to8 sizeOver8)))))
 
+-- a language
 unfoldable pub languageFrom : Subtag → Bool
 languageFrom t = languageSize (sizeFrom (t .len)) && eqb (t .letters) (t .len)
 
+-- script, region or variant
 unfoldable pub kindFrom : Subtag → StandardKind
 kindFrom t = kind (sizeFrom (t .len)) (eqb (t .letters) (t .len)) (eqb (t .digits) (t .len)) (digit (t .first))
 
+-- the key of a keyword
 unfoldable pub keywordFrom : Subtag → Bool
 keywordFrom t = eqb (t .len) 2 && eqb (t .letters) (cond (small (t .first)) 2 1)
 
+-- the key of a field
 unfoldable pub fieldFrom : Subtag → Bool
 fieldFrom t = eqb (t .len) 2 && (small (t .first) && eqb (t .digits) 1)
 

@@ -1,4 +1,4 @@
--- Sections: subtags, each with its separator before it.
+-- Sections: subtags, each with its separator before it; a part of an identifier, or of its canonical form.
 -- Assumes nothing.
 use mathlib.Core.Path.{_≡_}
 use mathlib.Core.List.{List, [], _∷_, _++_}
@@ -19,6 +19,7 @@ led (t ∷ ts) = 45 ∷ (t ++ led ts)
 unfoldable pub Led : List ℕ → Type 0
 Led s = headTag (split s) ≡ []
 
+-- each subtag has 1 to 8 bytes, none of them 0 or 255
 unfoldable pub Plain : List Tag → Type 0
 Plain [] = Unit {0}
 Plain (t ∷ ts) = PlainTag t × Plain ts

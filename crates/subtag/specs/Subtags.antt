@@ -1,4 +1,4 @@
--- What the code keeps of a subtag, and its answer on the order of byte strings.
+-- What the code keeps of a subtag, its number among that; and subtags of 1 to 8 bytes.
 -- Assumes nothing.
 use mathlib.Core.Bool.{Bool, cond}
 use mathlib.Core.List.{[], _∷_}
@@ -24,9 +24,11 @@ packed zero t = 0
 packed (suc n) [] = 0
 packed (suc n) (b ∷ bs) = b * 256 ^ n + packed n bs
 
+-- in eight bytes
 unfoldable pub keyOf : Tag → ℕ
 keyOf t = packed 8 t
 
+-- all that the code keeps
 unfoldable pub subtagOf : Tag → Subtag
 subtagOf t = record { len = length t; letters = count small t; digits = count digit t; first = firstByte t; key = keyOf t }
 
@@ -35,5 +37,6 @@ unfoldable pub PlainBytes : Tag → Type 0
 PlainBytes [] = Unit {0}
 PlainBytes (b ∷ bs) = (0 < b) × (b < 255) × PlainBytes bs
 
+-- a subtag of 1 to 8 such bytes
 unfoldable pub PlainTag : Tag → Type 0
 PlainTag t = (0 < length t) × (length t ≤ 8) × PlainBytes t

@@ -1,5 +1,5 @@
 // Inner. Bytes and subtags: the class of a byte, which one match decides and everything else goes by; letter case; the
-// subtag at the front of what is left of an identifier; the order of byte strings.
+// subtag at the front of what is left of an identifier, and what it can be.
 ghost use mathlib.Core.Path.{_≡_};
 ghost use mathlib.Core.List.{map};
 ghost use Prim.Native.Nat.{_+_, _≤_, _<_};

@@ -1,5 +1,6 @@
 // Inner. Tables as lent bytes: the lookup of one row, which hands back the value as a part of the table. `lookup`
-// reads line by line and answers for all bytes; `lookup_sorted` gives the same answer by halves where the rows ascend.
+// reads line by line and answers for all bytes; `find_sorted` gives the same answer by halves where the rows ascend, and
+// `hints` mostly without a search.
 pub mod hints;
 
 use byte_string::end_of;

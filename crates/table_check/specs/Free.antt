@@ -29,6 +29,7 @@ ownTag Region v = v
 ownTag Variant v = v
 ownTag Unknown v = v
 
+-- an alias row whose value's own subtag is no key of its kind
 unfoldable pub freeAlias : List ℕ → List Tag → Bool
 freeAlias A [] = false
 freeAlias A (a ∷ []) = false
@@ -43,11 +44,13 @@ isThrees (a ∷ []) = false
 isThrees (key ∷ value ∷ []) = isThree key && isThree value
 isThrees (a ∷ b ∷ c ∷ ts) = false
 
+-- the second field
 unfoldable pub secondOf : List Tag → Tag
 secondOf [] = []
 secondOf (a ∷ []) = []
 secondOf (a ∷ b ∷ ts) = b
 
+-- a parent row: its value, and the walk from its key
 unfoldable pub freeParent : List ℕ → List ℕ → List Tag → Bool
 freeParent A P ts = freeThree A (parse (secondOf ts)) && reachesFrom P 8 (headTag ts)
 
