@@ -1,3 +1,3 @@
 pub mod Slots
 pub mod Keyed
-pub mod Raised
+pub mod Cased

@@ -2,7 +2,7 @@
 -- Assumes nothing.
 use mathlib.Core.Bool.{Bool}
 use mathlib.Core.List.{List, [], _∷_, _++_}
-use Prim.Native.Nat.{ℕ, _+_}
+use Prim.Native.Nat.{ℕ}
 use Rattle.standard.specs.Tag.{Tag}
 use Rattle.standard.specs.Table.{located, languageKey, scriptKey, regionKey, variantKey}
 use Rattle.row_shapes.specs.declared.aliases.AliasKind.{AliasKind}

@@ -58,7 +58,7 @@ fn put_led(src: &[u8], out: &mut [u8], at: usize) -> usize
     if src.len() == 0 {
         return at;
     }
-    out[at] = 45;
+    out[at] = b'-';
     put(src, out, at + 1)
 }
 

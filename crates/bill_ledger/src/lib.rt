@@ -170,9 +170,9 @@ fn mark_of(member: u8) -> u64
 pub fn add(keys: &mut [u8], counts: &mut [u64], n: usize, member: u8, key: &[u8]) -> usize
     requires { ⌜ (n ≤ 512) × Sized (now keys) (now counts) × (length (now key) ≤ 31) × (1 ≤ member) × (member ≤ 64) ⌝ }
     ensures { λ r. let keys′ = now (keys .exit) in let counts′ = now (counts .exit) in let key = now (key .entry) in let keys = now (keys .entry) in
-        let counts = now (counts .entry) in
+        let counts = now (counts .entry) in let held = entriesFrom keys counts 0 n in
         ⌜ Sized keys′ counts′ × (r ≤ 513)
-        × ((u : Usage) → u .key ≡ key → u .member ≡ member → Up (entriesFrom keys counts 0 n) → Few (entriesFrom keys counts 0 n) → Added u (entriesFrom keys counts 0 n) keys′ counts′ r)
+        × ((u : Usage) → u .key ≡ key → u .member ≡ member → Up held → Few held → Added u held keys′ counts′ r)
         × (512 < r → (keys′ ≡ keys) × (counts′ ≡ counts)) ⌝ }
 {
     let mark = mark_of(member);

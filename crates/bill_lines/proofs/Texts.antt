@@ -14,6 +14,7 @@ use Rattle.tsv.proofs.Laws.{field-length}
 use Rattle.bill_ledger.proofs.Places.{key-part}
 use Rattle.bill_ledger.specs.Places.{bytesAt, atMost31, textAt, entryAt, entriesFrom}
 use Rattle.bill_lines.specs.Text.{header, lastText, entryText, entriesText}
+use Rattle.standard.specs.Tag.{text}
 
 -- a key and a tab have at most 32 bytes
 bytes-length : (ks : Bytes) (at n : ℕ) → length (bytesAt ks at n) ≡ n
@@ -76,11 +77,11 @@ rows-all o₀ o at end ks cs i n w e h k =
     (w .end-is ∙ ap (λ (j : ℕ). at + length (entriesText (entriesFrom ks cs 0 j))) e, w .written ∙ ap (λ (j : ℕ). sets o₀ at (entriesText (entriesFrom ks cs 0 j))) e, omega arith)
 
 -- the last row: what is always the same, and a number
-pub last-start : length (field (45 ∷ 9 ∷ 48 ∷ []) 9) ≡ 4
+pub last-start : length (field (text "-\t0") 9) ≡ 4
 unfolding field
 last-start = refl
 
-last-parts : (n : ℕ) → lastText n ≡ field (45 ∷ 9 ∷ 48 ∷ []) 9 ++ field (decimal n) 10
+last-parts : (n : ℕ) → lastText n ≡ field (text "-\t0") 9 ++ field (decimal n) 10
 unfolding field lastText
 last-parts n = refl
 
@@ -88,9 +89,9 @@ header-length : length header ≡ 23
 unfolding header field
 header-length = refl
 
-pub last-written : (o o₁ o₂ : Bytes) (at p r n : ℕ) → p ≡ at + length (field (45 ∷ 9 ∷ 48 ∷ []) 9) → o₁ ≡ sets o at (field (45 ∷ 9 ∷ 48 ∷ []) 9)
+pub last-written : (o o₁ o₂ : Bytes) (at p r n : ℕ) → p ≡ at + length (field (text "-\t0") 9) → o₁ ≡ sets o at (field (text "-\t0") 9)
     → r ≡ p + length (field (decimal n) 10) → o₂ ≡ sets o₁ p (field (decimal n) 10) → (r ≡ at + length (lastText n)) × (o₂ ≡ sets o at (lastText n))
-last-written o o₁ o₂ at p r n a b c d = wrote-two o o₁ o₂ at p r (field (45 ∷ 9 ∷ 48 ∷ []) 9) (field (decimal n) 10) (lastText n) (last-parts n) a b c d
+last-written o o₁ o₂ at p r n a b c d = wrote-two o o₁ o₂ at p r (field (text "-\t0") 9) (field (decimal n) 10) (lastText n) (last-parts n) a b c d
 
 -- the header
 pub header-put : (o o₁ : Bytes) (r : ℕ) → r ≡ 0 + length header → o₁ ≡ sets o 0 header → (r ≡ 0 + length header) × (o₁ ≡ sets o 0 header) × (r ≤ 23)

@@ -1,4 +1,4 @@
--- What a usage line says before its identifier is judged. Assumes nothing.
+-- What a usage line says before its identifier is keyed. Assumes nothing.
 use mathlib.Core.Path.{_≡_}
 use mathlib.Core.Option.{Option, none, some}
 use Prim.Native.Nat.{ℕ, _≤_}

@@ -13,11 +13,12 @@ use Rattle.bill_rules.specs.Bill.{Row, Bill, bill, refusedWith, billOf}
 use Rattle.bill_ledger.specs.Entries.{Entry}
 use Rattle.bill_ledger.specs.Places.{entriesFrom}
 use Rattle.bill_lines.specs.declared.Counts.{Counts}
+use Rattle.standard.specs.Tag.{text}
 
 -- 02, T-01: `key`, `members`, `deliveries` as a header, tab-parted
 unfoldable pub header : Bytes
 header =
-    field (107 ∷ 101 ∷ 121 ∷ 9 ∷ 109 ∷ 101 ∷ 109 ∷ 98 ∷ 101 ∷ 114 ∷ 115 ∷ 9 ∷ 100 ∷ 101 ∷ 108 ∷ 105 ∷ 118 ∷ 101 ∷ 114 ∷ 105 ∷ 101 ∷ 115 ∷ []) 10
+    field (text "key\tmembers\tdeliveries") 10
 
 unfoldable pub rowText : Row → Bytes
 rowText r = field (r .key) 9 ++ (field (decimal (r .members)) 9 ++ field (decimal (r .deliveries)) 10)

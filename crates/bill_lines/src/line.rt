@@ -83,9 +83,8 @@ fn add_used(
 ) -> usize
     requires { ⌜ (n ≤ 512) × Sized (now keys) (now counts) × (1 ≤ member) × (member ≤ 64) × (len ≤ 26) × (255 ≤ length (now out)) ⌝ }
     ensures { λ r. let keys′ = now (keys .exit) in let counts′ = now (counts .exit) in let keys = now (keys .entry) in
-        let counts = now (counts .entry) in let out = now (out .entry) in
-        ⌜ Sized keys′ counts′
-        × (Up (entriesFrom keys counts 0 n) → Few (entriesFrom keys counts 0 n) → Added (record { member = member; key = take len out }) (entriesFrom keys counts 0 n) keys′ counts′ r) ⌝ }
+        let counts = now (counts .entry) in let out = now (out .entry) in let held = entriesFrom keys counts 0 n in
+        ⌜ Sized keys′ counts′ × (Up held → Few held → Added (record { member = member; key = take len out }) held keys′ counts′ r) ⌝ }
 {
     bill_ledger::add(keys, counts, n, member, &out[..len])
 }

@@ -48,7 +48,7 @@ fn two_digits(d: u8, e: u8) -> u8
 pub(crate) fn shape_of(line: &[u8]) -> Shape
     ensures { λ r. ⌜ Shaped (now (line .entry)) r ⌝ }
 {
-    let tab = byte_string::end_of(line, 9, 0);
+    let tab = byte_string::end_of(line, b'\t', 0);
     if line.len() <= tab {
         return Shape {
             member: 0,

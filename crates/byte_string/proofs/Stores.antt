@@ -18,17 +18,6 @@ pub map-append : (f : ℕ → ℕ) (x y : List ℕ) → map f (x ++ y) ≡ map f
 map-append f [] y = refl
 map-append f (a ∷ x) y = ap (_∷_ (f a)) (map-append f x y)
 
-pub store-next : (f : ℕ → ℕ) (l o : List ℕ) (at : ℕ) (x : List ℕ) (i b : ℕ) → o ≡ sets l at (map f (take i x)) → b ≡ f (getD x i 0) → i < length x
-    → set o (at + i) b ≡ sets l at (map f (take (i + 1) x))
-store-next f l o at x i b e d h =
-    let n : length (map f (take i x)) ≡ i = length-map (take i x) f ∙ length-take-le i x (omega arith) in
-    let m : map f (take (i + 1) x) ≡ map f (take i x) ++ (f (getD x i 0) ∷ []) = rw (add-one, take-suc x i 0) (map-append f (take i x) (getD x i 0 ∷ [])) in
-    ap₂ (λ (q : List ℕ) (c : ℕ). set q (at + i) c) e d
-    ∙ sym (ap (sets l at) m ∙ sets-append l at (map f (take i x)) (f (getD x i 0) ∷ []) ∙ ap (λ (k : ℕ). set (sets l at (map f (take i x))) (at + k) (f (getD x i 0))) n)
-
-pub store-all : (f : ℕ → ℕ) (l : List ℕ) (at : ℕ) (x : List ℕ) (i : ℕ) → length x ≤ i → sets l at (map f (take i x)) ≡ sets l at (map f x)
-store-all f l at x i h = ap (λ (y : List ℕ). sets l at (map f y)) (take-all i x h)
-
 -- one run of stores, and another behind it
 pub wrote-two : (o o₁ o₂ : List ℕ) (at p r : ℕ) (x y b : List ℕ) → b ≡ x ++ y → p ≡ at + length x → o₁ ≡ sets o at x → r ≡ p + length y → o₂ ≡ sets o₁ p y
     → (r ≡ at + length b) × (o₂ ≡ sets o at b)
@@ -39,15 +28,13 @@ wrote-two o o₁ o₂ at p r x y b e f g h k =
 pub mapped : (f : ℕ → ℕ) (at : ℕ) (x : List ℕ) → at + length x ≡ at + length (map f x)
 mapped f at x = ap (λ (n : ℕ). at + n) (sym (length-map x f))
 
--- without a change of the bytes
+-- one byte more, and all of them
 pub plain-next : (l o : List ℕ) (at : ℕ) (x : List ℕ) (i b : ℕ) → o ≡ sets l at (take i x) → b ≡ getD x i 0 → i < length x → set o (at + i) b ≡ sets l at (take (i + 1) x)
 plain-next l o at x i b e d h =
-    let m = map-same in
-    store-next (λ (a : ℕ). a) l o at x i b (e ∙ ap (sets l at) (sym (m (take i x)))) d h ∙ ap (sets l at) (m (take (i + 1) x))
-  where
-    map-same : (y : List ℕ) → map (λ (a : ℕ). a) y ≡ y
-    map-same [] = refl
-    map-same (a ∷ y) = ap (_∷_ a) (map-same y)
+    let n : length (take i x) ≡ i = length-take-le i x (omega arith) in
+    let m : take (i + 1) x ≡ take i x ++ (getD x i 0 ∷ []) = rw (add-one, take-suc x i 0) in
+    ap₂ (λ (q : List ℕ) (c : ℕ). set q (at + i) c) e d
+    ∙ sym (ap (sets l at) m ∙ sets-append l at (take i x) (getD x i 0 ∷ []) ∙ ap (λ (k : ℕ). set (sets l at (take i x)) (at + k) (getD x i 0)) n)
 
 pub plain-all : (l : List ℕ) (at : ℕ) (x : List ℕ) (i : ℕ) → length x ≤ i → sets l at (take i x) ≡ sets l at x
 plain-all l at x i h = ap (sets l at) (take-all i x h)

@@ -25,7 +25,7 @@ use Rattle.reader.specs.Parts.{startOf, partsOf}
 use Rattle.reader.proofs.Accepted.{Core, of-language, of-root, of-script}
 use Rattle.subtag.specs.Sections.{led, Plain}
 use Rattle.canonical.specs.Three.{between, afterSeparator, scriptStart, languageLookup}
-use Rattle.subtag.proofs.Raised.{raised-title, raised-upper}
+use Rattle.subtag.proofs.Cased.{cased-title, cased-upper}
 use Rattle.canonical.proofs.Places.{behind, at-once, start-first, start-later}
 use Rattle.canonical.proofs.Cuts.{Cut, cut-one, Accepted, accepted, firstTag, otherTags, Parts, parts-at, first-is, before-is}
 
@@ -156,7 +156,7 @@ module _ (x : List ℕ) (a : Accepted x) where
   region-text = cut-optional x (c .script) (c .region) (find aRegion (otherTags x)) _ (p .region)
 
   region-upper : cased 8 (map normalByte (between x (afterSeparator (c .script) (c .region)) (c .region))) ≡ upper (find aRegion (otherTags x))
-  region-upper = ap (cased 8) region-text ∙ raised-upper 8 (find aRegion (otherTags x)) (plain-small (find aRegion (otherTags x)) (p .region .plain))
+  region-upper = ap (cased 8) region-text ∙ cased-upper 8 (find aRegion (otherTags x)) (plain-small (find aRegion (otherTags x)) (p .region .plain))
 
   first-small : length (firstTag x) ≤ 8
   first-small = rw (first-is x a) at (label-small (split x) (a .plain))
@@ -175,7 +175,7 @@ module _ (x : List ℕ) (a : Accepted x) where
       record {
         rises = omega (arith, p .script .within);
         small = rw s (cut-small x (length (firstTag x)) (c .script) (find aScript (otherTags x)) _ (p .script));
-        text = rw s (ap (cased 1) (cut-optional x (length (firstTag x)) (c .script) (find aScript (otherTags x)) _ (p .script)) ∙ raised-title (find aScript (otherTags x)));
+        text = rw s (ap (cased 1) (cut-optional x (length (firstTag x)) (c .script) (find aScript (otherTags x)) _ (p .script)) ∙ cased-title (find aScript (otherTags x)));
       }
 
   -- of the three as they were read
@@ -205,7 +205,7 @@ module _ (x : List ℕ) (a : Accepted x) where
       let s : scriptStart (c .language) (c .script) ≡ 0 = start-first (c .language) (c .script) l in
       let z : c .script - 0 ≡ length (firstTag x) = omega (arith, script-cut, no-part (find aScript (otherTags x)) (r .script)) in
       rw (core-script (firstTag x) (otherTags x) f g)
-      (give _ (omega arith) (rw (s, z) first-small) (rw (s, z) (ap (cased 1) (p .first-bytes) ∙ raised-title (firstTag x))) refl)
+      (give _ (omega arith) (rw (s, z) first-small) (rw (s, z) (ap (cased 1) (p .first-bytes) ∙ cased-title (firstTag x))) refl)
 
   pub given : (l s r : ℕ) → l ≡ c .language → s ≡ c .script → r ≡ c .region → Given x l s r (i .core)
   given l s r u v w = rw (u, v, w, core-is) (given-core (p .core))

@@ -12,7 +12,7 @@ use subtag::put_normalised;
 ghost use mathlib.Core.Path.{_≡_};
 ghost use mathlib.Core.List.{[]};
 ghost use mathlib.Core.Option.{none};
-ghost use Prim.Native.Nat.{_+_, _≤_, _<_};
+ghost use Prim.Native.Nat.{_≤_, _<_};
 ghost use lib.ListN.{length};
 ghost use lib.Seq.{sets};
 ghost use Rattle.standard.specs.Reading.{split, faultOf, print};
@@ -76,7 +76,7 @@ pub fn refusal_in(c: Canon) -> NoForm
 fn hyphen(b: u8) -> usize
     ensures { λ r. ⌜ (r ≡ hyphenOf b) × (r ≤ 1) ⌝ }
 {
-    if b == 45 {
+    if b == b'-' {
         return 1;
     }
     0

@@ -120,7 +120,7 @@ fn write_from(id: &[u8], p: Parts, w: &[u8], aliases: &[u8], hints: &[u16], out:
         ⌜ (r ≡ endsOf (canonicalThree aliases id)) × (out′ ≡ sets out 0 (printThree (canonicalThree aliases id))) ⌝ }
 {
     let n = w.len();
-    let e = end_of(w, 45, 0);
+    let e = end_of(w, b'-', 0);
     let s = script_end(e, n);
     let l = p.language;
     let m = p.script;

@@ -1,7 +1,6 @@
 pub mod Selection
 pub mod Walk
 pub mod Picks
-pub mod Judged
 pub mod Keys
 pub mod Pending
 pub mod Trim
@@ -10,3 +9,4 @@ pub mod Boundary
 pub mod Arranging
 pub mod Tests
 pub mod Fields
+pub mod Keyed

@@ -12,7 +12,7 @@ use Rattle.canonical_order.specs.declared.choice.Head.{Head}
 use Rattle.subtag.specs.Subtags.{subtagOf}
 use Rattle.subtag.specs.Sections.{tagsOf, Led}
 use Rattle.canonical_order.specs.Section.{isHead, betterOf, pickFrom, endFrom}
-use Rattle.subtag.proofs.Walk.{judged, judged-len}
+use Rattle.subtag.proofs.Walk.{judged, scanned-len}
 use Rattle.canonical_order.proofs.Walk.{Step, step, tags-end}
 
 -- what the subtag's answer for the part behind the separator says
@@ -24,7 +24,7 @@ pub record Stepped (s : List ℕ) (at : ℕ) (r : Subtag) : Type 0 where
 pub stepped : (s : List ℕ) (at : ℕ) (r : Subtag) → at < length s → Led (drop at s) → r ≡ subtagOf (headTag (split (take (length s - (at + 1)) (drop (at + 1) s)))) → Stepped s at r
 stepped s at r h l e =
     let i = judged s (at + 1) r e in
-    let n = judged-len (headTag (split (drop (at + 1) s))) r i in
+    let n = scanned-len (headTag (split (drop (at + 1) s))) r i in
     record { is = i; size = n; on = step s at (r .len) h l n }
 
 module _ (s : List ℕ) (at : ℕ) (r : Subtag) (w : Stepped s at r) where

@@ -46,7 +46,7 @@ pub(crate) fn next_above(s: &[u8], width: usize, last: u64) -> Head
     let mut best = Head {
         at: n,
         next: n,
-        key: 18446744073709551615,
+        key: u64::MAX,
     };
     let mut at: usize = 0;
     while at < n {

@@ -31,10 +31,10 @@ fn write_extension(g: &[u8], out: &mut [u8], at: usize) -> usize
 {
     let b = lower(g[1]);
     let put = put_normalised(&g[..2], out, at);
-    if b == 117 {
+    if b == b'u' {
         return write_keywords(&g[2..], out, put);
     }
-    if b == 116 {
+    if b == b't' {
         return write_fields(&g[2..], out, put);
     }
     put_normalised(&g[2..], out, put)

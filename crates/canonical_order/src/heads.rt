@@ -1,4 +1,4 @@
-// The subtags of a longer section judged once, so that each choice of the next head goes over numbers and not over bytes.
+// The subtags of a longer section scanned once, so that each choice of the next head goes over numbers and not over bytes.
 use crate::choice::Head;
 use subtag::Subtag;
 use subtag::scan;
@@ -7,7 +7,7 @@ ghost use Prim.Native.Nat.{_+_, _≤_};
 ghost use lib.ListN.{length, take};
 ghost use Rattle.subtag.specs.Sections.{tagsOf, Led, Plain};
 ghost use Rattle.canonical_order.specs.Section.{noHead};
-ghost use Rattle.canonical_order.specs.Judged.{headKey, headKeys, placesFrom, betterBy, pickBy};
+ghost use Rattle.canonical_order.specs.Keyed.{headKey, headKeys, placesFrom, betterBy, pickBy};
 
 // Room for the numbers of the subtags of 256 bytes, and for their places and the end.
 pub(crate) fn no_keys() -> [u64; 128]
@@ -76,7 +76,7 @@ pub(crate) fn next_of(keys: &[u64], places: &[usize], n: usize, last: u64) -> He
     let mut best = Head {
         at: n,
         next: n,
-        key: 18446744073709551615,
+        key: u64::MAX,
     };
     let mut i = 0;
     while i < keys.len() {

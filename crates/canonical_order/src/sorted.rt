@@ -14,7 +14,7 @@ ghost use Prim.Native.Nat.{_+_, _≤_, _<_};
 ghost use lib.ListN.{length};
 ghost use Rattle.byte_string.specs.Strings.{Writes};
 ghost use Rattle.subtag.specs.Sections.{tagsOf, Led, Plain};
-ghost use Rattle.canonical_order.specs.Judged.{headKeys, placesFrom};
+ghost use Rattle.canonical_order.specs.Keyed.{headKeys, placesFrom};
 ghost use Rattle.canonical_order.specs.Section.{endWithout, trimmedEnd, sortedBytes};
 
 // The end of a group, whose head ends at next: with trim, before a type that is exactly `true`.
@@ -104,8 +104,8 @@ fn write_by(
     }
 }
 
-// The same for at most 256 bytes: each subtag is judged once.
-fn write_judged(s: &[u8], width: usize, trim: bool, out: &mut [u8], at: usize) -> usize
+// The same for at most 256 bytes: each subtag is scanned once, and its number kept.
+fn write_keyed(s: &[u8], width: usize, trim: bool, out: &mut [u8], at: usize) -> usize
     requires { ⌜ (at + length (now s) ≤ length (now out)) × (length (now s) < 4000) × Led (now s) × Plain (tagsOf (now s)) × (length (now s) ≤ 256) ⌝ }
     ensures { λ r. ⌜ Writes (now (out .entry)) at (sortedBytes width trim (now (s .entry))) r (now (out .exit)) ⌝ }
 {
@@ -123,7 +123,7 @@ fn write_judged(s: &[u8], width: usize, trim: bool, out: &mut [u8], at: usize) -
     )
 }
 
-// Writes the groups of s in ascending order of their heads. Few subtags are sooner judged again than kept.
+// Writes the groups of s in ascending order of their heads. Few subtags are sooner scanned again than kept.
 pub fn write_sorted(s: &[u8], width: usize, trim: bool, out: &mut [u8], at: usize) -> usize
     requires { ⌜ (at + length (now s) ≤ length (now out)) × (length (now s) < 4000) × Led (now s) × Plain (tagsOf (now s)) ⌝ }
     ensures { λ r. ⌜ Writes (now (out .entry)) at (sortedBytes width trim (now (s .entry))) r (now (out .exit)) ⌝ }
@@ -134,5 +134,5 @@ pub fn write_sorted(s: &[u8], width: usize, trim: bool, out: &mut [u8], at: usiz
     if 256 < s.len() {
         return write_scanned(s, width, trim, out, at);
     }
-    write_judged(s, width, trim, out, at)
+    write_keyed(s, width, trim, out, at)
 }

@@ -55,7 +55,7 @@ fn put_two(first: usize, second: usize, mark: u8, out: &mut [u8], at: usize) -> 
     ensures { λ r. let out′ = now (out .exit) in let out = now (out .entry) in
         ⌜ WritesWithin (at + 42) out at (field (decimal first) 9 ++ field (decimal second) mark) r out′ ⌝ }
 {
-    let p = put_number(first, 9, out, at);
+    let p = put_number(first, b'\t', out, at);
     put_number(second, mark, out, p)
 }
 

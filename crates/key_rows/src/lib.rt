@@ -103,8 +103,8 @@ fn rows_hinted(
         if out.len() - len < 540 {
             return Keyed {
                 number: 0,
-                table: 0,
                 place: 0,
+                table: 0,
                 used: at,
                 len,
             };

@@ -12,7 +12,7 @@ use lib.Seq.{sets, sets-eq}
 use Rattle.standard.specs.Delivery.{Bytes, Made, refusal, form, Given, given}
 use Rattle.standard.proofs.General.{bool-cases}
 use Rattle.byte_string.proofs.Stores.{sets-append}
-use Rattle.standard.specs.Tag.{pick}
+use Rattle.standard.specs.Tag.{pick, text}
 use Rattle.likely.specs.Kept.{keptParts}
 use Rattle.likely.specs.declared.lsr.Kept.{Kept}
 use Rattle.likely.specs.declared.lsr.Kept.the-variants.{Neither, Region, Script, Both}
@@ -151,7 +151,7 @@ pub then-given : (r : Given) (m n : Made) (out : Bytes) → r ≡ given m out �
 then-given r m n out e f = e ∙ ap (λ (x : Made). given x out) f
 
 -- Canonical parts: the unknown ones removed, a row or none.
-pub known-are : (l s r s′ r′ : Bytes) → s′ ≡ knownPart (45 ∷ 90 ∷ 122 ∷ 122 ∷ 122 ∷ []) s → r′ ≡ knownPart (45 ∷ 90 ∷ 90 ∷ []) r → parts3 l s′ r′ ≡ knownParts (parts3 l s r)
+pub known-are : (l s r s′ r′ : Bytes) → s′ ≡ knownPart (text "-Zzzz") s → r′ ≡ knownPart (text "-ZZ") r → parts3 l s′ r′ ≡ knownParts (parts3 l s r)
 unfolding knownParts
 known-are l s r s′ r′ e f = rw (e, f)
 

@@ -6,7 +6,7 @@ use mathlib.Core.Option.{Option, none, some}
 use Prim.Native.Nat.{ℕ, _+_, _-_, _≤_}
 use lib.Dec.{eqb}
 use lib.ListN.{length, drop, take}
-use Rattle.standard.specs.Tag.{Tag, same, present, pick}
+use Rattle.standard.specs.Tag.{Tag, same, present, pick, text}
 use Rattle.standard.specs.Identifier.{Three, und}
 use Rattle.standard.specs.Delivery.{Bytes}
 use Rattle.standard.specs.Table.{lookup, rows}
@@ -39,8 +39,8 @@ knownPart unknown p = cond (same p unknown) [] p
 unfoldable pub knownParts : Parts → Parts
 knownParts p = record {
   language = p .language;
-  script = knownPart (45 ∷ 90 ∷ 122 ∷ 122 ∷ 122 ∷ []) (p .script);
-  region = knownPart (45 ∷ 90 ∷ 90 ∷ []) (p .region);
+  script = knownPart (text "-Zzzz") (p .script);
+  region = knownPart (text "-ZZ") (p .region);
 }
 
 -- nothing is missing: the language is not `und`, and script and region are there

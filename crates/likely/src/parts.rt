@@ -63,7 +63,7 @@ pub(crate) fn dash_from(v: &[u8], at: usize) -> usize
 {
     let mut i = at;
     while i < v.len() {
-        if v[i] == 45 {
+        if v[i] == b'-' {
             return i;
         }
         i += 1;

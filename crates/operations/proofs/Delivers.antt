@@ -21,8 +21,8 @@ use Rattle.canonical.specs.declared.form.Form.{Form}
 use Rattle.canonical.specs.declared.form.Canon.{Canon}
 use Rattle.canonical.specs.declared.form.Canon.the-variants.{Formed, Refused}
 use Rattle.canonical.specs.declared.form.NoForm.{NoForm}
-use Rattle.canonical.specs.Form.{Outcome, noFormIs, outcomeOf, formed, canonicalOf, outcome}
-use Rattle.operations.specs.Answer.{answerOf, refusedAnswer, refusedOf, madeOf}
+use Rattle.canonical.specs.Form.{Outcome, form, refusal, noFormIs, outcomeOf, formed, canonicalOf, outcome}
+use Rattle.operations.specs.Answer.{answerOf, refusedAnswer, refusedOf}
 use Rattle.operations.proofs.Canonicalised.{refused-by}
 
 pub too-short : (b out : List ℕ) (steps : ℕ) (r : Answer) → r ≡ refusedAnswer 10 0 0 → length out < length b → answerOf r out ≡ given (result b steps) out
@@ -41,13 +41,17 @@ pub refused-given : (n p t : ℕ) (out : List ℕ) → answerOf (refusedAnswer n
 unfolding answerOf refusedAnswer given
 refused-given n p t out = refl
 
--- What canonicalising makes.
+-- What an outcome of canonicalising makes: the form's bytes, or the refusal.
+madeOf : Outcome → Made
+madeOf (form f b) = result b 0
+madeOf (refusal n p) = refusalMade n p 0
+
 answered : (a : StandardAnswer) → madeOf (formed a) ≡ made a
 unfolding madeOf formed made
 answered (done c) = refl
 answered (refused n) = refl
 
-pub made-outcome : (A x : List ℕ) → madeOf (outcome A x) ≡ make (tablesOf A [] []) canonicalise x
+made-outcome : (A x : List ℕ) → madeOf (outcome A x) ≡ make (tablesOf A [] []) canonicalise x
 unfolding outcome make canonicalOf makeOf operate madeOf
 made-outcome A x = go (read x)
   where

@@ -1,10 +1,10 @@
 -- What a public operation gives back, as the standard states it. Assumes nothing.
 use mathlib.Core.List.{List}
 use Prim.Native.Nat.{ℕ}
-use Rattle.standard.specs.Delivery.{Made, result, refusal as refusalMade, Given}
+use Rattle.standard.specs.Delivery.{Given}
 use Rattle.operations.specs.declared.delivery.Answer.{Answer}
 use Rattle.canonical.specs.declared.form.NoForm.{NoForm}
-use Rattle.canonical.specs.Form.{Outcome, form, refusal, noFormIs}
+use Rattle.canonical.specs.Form.{noFormIs}
 
 -- an answer, with all of the lent output afterwards
 unfoldable pub answerOf : Answer → List ℕ → Given
@@ -17,11 +17,6 @@ refusedAnswer number place table = record { number = number; place = place; tabl
 -- a refusal of canonicalising
 unfoldable pub refusedOf : NoForm → Answer
 refusedOf r = refusedAnswer (noFormIs r .number) (noFormIs r .place) 0
-
--- what an outcome makes: the form's bytes, or the refusal
-unfoldable pub madeOf : Outcome → Made
-madeOf (form f b) = result b 0
-madeOf (refusal n p) = refusalMade n p 0
 
 -- a refusal of canonicalising, with all of the lent output
 unfoldable pub givenRefused : NoForm → List ℕ → Given

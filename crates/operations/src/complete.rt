@@ -42,7 +42,8 @@ pub fn from_form<'a>(
     requires { ⌜ (f .language ≤ f .script) × (f .script ≤ f .region) × (f .region ≤ f .len) × (f .len ≤ length (now buf)) ⌝ }
     ensures { λ r. let out′ = now (out .exit) in let buf = now (buf .entry) in let likely = now (likely .entry) in let hints = now (hints .entry) in
         let out = now (out .entry) in
-        ⌜ ((p : Parts) → (rest : List ℕ) → Slices buf (p .language) (p .script) (p .region) rest (f .language) (f .script) (f .region) (f .len) → ReadyFor likely hints p → givenBy r out′ ≡ given (madeParts shorten likely rest p) out) ⌝ }
+        ⌜ ((p : Parts) → (rest : List ℕ) → Slices buf (p .language) (p .script) (p .region) rest (f .language) (f .script) (f .region) (f .len)
+        → ReadyFor likely hints p → givenBy r out′ ≡ given (madeParts shorten likely rest p) out) ⌝ }
 {
     let l = f.language;
     let s = f.script;

@@ -14,9 +14,8 @@ use Rattle.standard.specs.Identifier.{und}
 use Rattle.standard.proofs.General.{clash}
 use Rattle.standard.specs.Delivery.{Bytes}
 use Rattle.standard.specs.Table.{listing, lookup, rows, located}
-use Rattle.table.specs.declared.Found.{Found}
-use Rattle.table.specs.Lines.{foundIs, valueOr, isFound}
-use Rattle.table.proofs.Lines.{cut-value, cut-found, value-located, found-located}
+use Rattle.table.specs.Lines.{valueOf, valueOr, isFound}
+use Rattle.table.proofs.Lines.{value-located, found-located}
 use Rattle.byte_string.proofs.Stores.{sets-append}
 use Rattle.parents.specs.declared.lines.Listed.{Listed}
 use Rattle.parents.specs.Texts.{lastBelow, lastDash, withoutLast, rowText, parentBy, parentText, chainText}
@@ -106,11 +105,11 @@ pub no-row : (P x : Bytes) (v : ℕ) → 0 < v → false ≡ isFound (rowText P 
 unfolding isFound
 no-row P x v h = rw (row-none P x v h)
 
-pub value-found : (P x : Bytes) (v : ℕ) (f : Found) → v ≤ 0 → foundIs f ≡ located P x → take (f .start + f .len - f .start) (drop (f .start) P) ≡ valueOr (rowText P v x)
-value-found P x v f h e = cut-value P f (located P x) e ∙ (value-located P x ∙ ap valueOr (sym (row-by P x v h)))
+pub value-found : (P x w : Bytes) (v : ℕ) → v ≤ 0 → w ≡ valueOf P (located P x) → w ≡ valueOr (rowText P v x)
+value-found P x w v h e = e ∙ (value-located P x ∙ ap valueOr (sym (row-by P x v h)))
 
-pub row-found : (P x : Bytes) (v : ℕ) (f : Found) → v ≤ 0 → foundIs f ≡ located P x → f .found ≡ isFound (rowText P v x)
-row-found P x v f h e = cut-found f (located P x) e ∙ (found-located P x ∙ ap isFound (sym (row-by P x v h)))
+pub row-found : (P x : Bytes) (v : ℕ) {f : Bool} → v ≤ 0 → f ≡ (located P x) .found → f ≡ isFound (rowText P v x)
+row-found P x v h e = e ∙ (found-located P x ∙ ap isFound (sym (row-by P x v h)))
 
 take-le : (n : ℕ) (l : Bytes) → length (take n l) ≤ length l
 take-le zero l = omega arith

@@ -27,7 +27,7 @@ fn last_dash(id: &[u8]) -> usize
     let mut i = id.len();
     while 0 < i {
         i -= 1;
-        if id[i] == 45 {
+        if id[i] == b'-' {
             return i;
         }
     }
@@ -44,11 +44,7 @@ fn row_of<'a>(parents: &'a [u8], id: &[u8], variants: usize, found: &mut bool) -
         *found = false;
         return &parents[..0];
     }
-    let f = table::find_sorted(parents, id);
-    let start = f.start;
-    let end = start + f.len;
-    *found = f.found;
-    &parents[start..end]
+    table::lookup_sorted(parents, id, found)
 }
 
 // Writes the line and its 0A at the place at.
@@ -57,7 +53,7 @@ fn put_line(id: &[u8], out: &mut [u8], at: usize)
     ensures { λ _. ⌜ now (out .exit) ≡ sets (now (out .entry)) at (now (id .entry) ++ (10 ∷ [])) ⌝ }
 {
     let end = put(id, out, at);
-    out[end] = 10;
+    out[end] = b'\n';
 }
 
 // The last line.

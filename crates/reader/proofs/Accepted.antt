@@ -5,7 +5,7 @@ use mathlib.Core.Bool.{Bool, true, false}
 use mathlib.Core.List.{List, [], _∷_, _++_, append-assoc}
 use mathlib.Core.Logic.{⊎-elim}
 use mathlib.Core.Option.{none, Option·some-ne-none}
-use Prim.Native.Nat.{ℕ, suc, _+_, _-_, _≤_, _<_}
+use Prim.Native.Nat.{ℕ, suc, _+_, _≤_, _<_}
 use native.Mathlib.Omega.{arith}
 use lib.ListN.{length, drop, length-drop, length-append}
 use lib.Seq.{drop-drop}
@@ -24,7 +24,7 @@ use Rattle.reader.specs.declared.Parts.{Parts}
 use Rattle.reader.specs.Cuts.{languageCut, cutsAfter, cutsOf}
 use Rattle.reader.specs.Parts.{startOf, partsOf}
 use Rattle.subtag.specs.Bytes.{cased}
-use Rattle.subtag.proofs.Raised.{raised-nil}
+use Rattle.subtag.proofs.Cased.{cased-nil}
 use Rattle.reader.specs.Words.{laterWord, LaterFits}
 use Rattle.reader.proofs.Bodies.{body, heads}
 use Rattle.reader.proofs.Walked.{grouped-flat}
@@ -131,7 +131,7 @@ pub record Later (x : List ℕ) (from to : ℕ) (t : Tag) : Type 0 where
 later-is : (x : List ℕ) (u : List Tag) (t : Tag) (v : List Tag) (from to : ℕ) → All Fine (split x) → split x ≡ u ++ (optional t ++ v) → parts u ≡ from + 1 → to ≡ from + part t → Later x from to t
 unfolding optional part laterWord PlainTag
 later-is x u [] v from to a e f g =
-    record { fits = record { fits = λ h. absurd (omega arith); short = λ h. absurd (omega arith) }; word = λ n. rw (le-ltb from to (omega arith), laterWord) (sym (raised-nil n)); short = omega arith }
+    record { fits = record { fits = λ h. absurd (omega arith); short = λ h. absurd (omega arith) }; word = λ n. rw (le-ltb from to (omega arith), laterWord) (sym (cased-nil n)); short = omega arith }
 later-is x u (b ∷ bs) v from to a e f g =
     let w = all-at u (b ∷ bs) v (subst (λ (ts : List Tag). All Fine ts) e a) in
     let p = place-from u (b ∷ bs) v x e (w .plain .1) in

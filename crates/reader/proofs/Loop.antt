@@ -14,7 +14,7 @@ use Rattle.standard.specs.Tag.{Tag, headTag}
 use Rattle.standard.specs.Reading.{split, afterFirst}
 use Rattle.subtag.specs.declared.Subtag.{Subtag}
 use Rattle.subtag.specs.Subtags.{firstByte, keyOf, subtagOf}
-use Rattle.subtag.proofs.Walk.{split-cons, judged, judged-len, judged-fits, walk-more, walk-end}
+use Rattle.subtag.proofs.Walk.{split-cons, judged, scanned-len, scanned-fits, walk-more, walk-end}
 use Rattle.reader.specs.declared.Parts.{Parts}
 use Rattle.reader.specs.declared.marks.Marking.{Marking}
 use Rattle.reader.specs.declared.marks.Marking.the-variants.{New, Repeat}
@@ -47,7 +47,7 @@ pub record Told (s : List ℕ) (at : ℕ) (t : Subtag) (st n : State) (v : Verdi
 pub told : (s : List ℕ) (at : ℕ) (t : Subtag) (st n : State) (v : Verdict) → t ≡ subtagOf (headTag (split (take (length s - at) (drop at s)))) → n ≡ nextFrom st t → v ≡ verdictOf n → Told s at t st n v
 told s at t st n v e f g =
     let j = judged s at t e in
-    record { is = j; len-is = judged-len (here s at) t j; len-fits = judged-fits s at t e; next = sym (f ∙ ap (nextFrom st) j); verdict = sym g }
+    record { is = j; len-is = scanned-len (here s at) t j; len-fits = scanned-fits s at t e; next = sym (f ∙ ap (nextFrom st) j); verdict = sym g }
 
 -- the walk after this subtag
 unfoldable pub rest : List ℕ → ℕ → ℕ → State → Parts → ℕ → List ℕ → Outcome

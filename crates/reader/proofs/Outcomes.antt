@@ -19,7 +19,7 @@ use Rattle.standard.proofs.Faults.{none-badTag}
 use Rattle.standard.proofs.Shapes.{Word}
 use Rattle.subtag.specs.declared.Class.{Class}
 use Rattle.subtag.specs.declared.Class.the-variants.{Small, Capital, Digit, Separator, Other}
-use Rattle.subtag.specs.Bytes.{classOf, isSmall, isCapital, isDigit, isSeparator}
+use Rattle.subtag.specs.Bytes.{classOf, isSmall, isCapital, isDigit, isSeparator, isOther}
 use Rattle.subtag.specs.Subtags.{PlainTag}
 use Rattle.subtag.proofs.Bytes.{classed}
 use Rattle.subtag.proofs.Keys.{word-plain, split-words}
@@ -32,21 +32,12 @@ use Rattle.reader.specs.Steps.{stepsOf}
 use Rattle.reader.proofs.Parting.{walked}
 use Rattle.reader.proofs.Stepping.{Fine, walked-steps}
 
--- A byte, by its class.
-abbrev pub isOther : Class → Bool
-isOther Small = false
-isOther Capital = false
-isOther Digit = false
-isOther Separator = false
-isOther Other = true
-
-pub foreign-as : (b : ℕ) (k l : Class) → k ≡ classOf b → k ≡ l → isOther l ≡ not (clean b)
+-- a byte that no identifier has, by its class
+pub foreign-as : (b : ℕ) → not (clean b) ≡ isOther (classOf b)
 unfolding clean
-foreign-as b k l e f =
-    let c = classed b in
-    ap isOther (sym f ∙ e) ∙ rw (c .small, c .capital, c .digit, c .separator) (go (classOf b))
+foreign-as b = let c = classed b in rw (c .small, c .capital, c .digit, c .separator) (go (classOf b))
   where
-    go : (m : Class) → isOther m ≡ not ((isSmall m || isCapital m) || (isDigit m || isSeparator m))
+    go : (m : Class) → not ((isSmall m || isCapital m) || (isDigit m || isSeparator m)) ≡ isOther m
     go Small = refl
     go Capital = refl
     go Digit = refl

@@ -18,9 +18,9 @@ use Rattle.reader.specs.declared.Start.the-variants.{Language, Script, R
 use Rattle.reader.specs.declared.Parts.{Parts}
 use Rattle.reader.specs.Parts.{parts, refused, startOf, partsOf, outcomeAs, outcome}
 use Rattle.subtag.specs.Bytes.{cased}
-use Rattle.subtag.proofs.Raised.{raised-title, raised-upper}
+use Rattle.subtag.proofs.Cased.{cased-title, cased-upper}
 use Rattle.reader.specs.Words.{laterWord, LaterFits, refusedReport, partsReport}
-use Rattle.reader.proofs.Words.{raised-none}
+use Rattle.reader.proofs.Words.{cased-none}
 use Rattle.reader.proofs.Accepted.{Named, named}
 
 -- What the first subtag is.
@@ -97,17 +97,17 @@ module _ (x : List ℕ) (p : Parts) (e : faultOf x ≡ none) (q : p ≡ partsOf 
       → partsReport p l s r ≡ reportOf (good (identifierOf (split x)))
   report-language f l s r a b c =
       let g = from-language f in
-      let i : l ≡ name .first = a ∙ raised-none _ ∙ name .front in
-      let j : s ≡ title (find aScript (name .others)) = b ∙ name .script g .word 1 ∙ raised-title _ in
-      let k : r ≡ upper (find aRegion (name .others)) = c ∙ name .region .word 8 ∙ raised-upper 8 _ (name .region .short) in
+      let i : l ≡ name .first = a ∙ cased-none _ ∙ name .front in
+      let j : s ≡ title (find aScript (name .others)) = b ∙ name .script g .word 1 ∙ cased-title _ in
+      let k : r ≡ upper (find aRegion (name .others)) = c ∙ name .region .word 8 ∙ cased-upper 8 _ (name .region .short) in
       filled l s r (rw (i, j, k) (sym (name .three ∙ core-language (name .first) (name .others) g)))
 
   pub report-script : p .start ≡ Script → (l s r : Tag) → l ≡ und → s ≡ cased 1 (headTag (split x)) → r ≡ laterWord 8 (p .script) (p .region) x
       → partsReport p l s r ≡ reportOf (good (identifierOf (split x)))
   report-script f l s r a b c =
       let g = start-script (name .first) (sym (name .start) ∙ f) in
-      let j : s ≡ title (name .first) = b ∙ raised-title _ ∙ ap title (name .front) in
-      let k : r ≡ upper (find aRegion (name .others)) = c ∙ name .region .word 8 ∙ raised-upper 8 _ (name .region .short) in
+      let j : s ≡ title (name .first) = b ∙ cased-title _ ∙ ap title (name .front) in
+      let k : r ≡ upper (find aRegion (name .others)) = c ∙ name .region .word 8 ∙ cased-upper 8 _ (name .region .short) in
       filled l s r (rw (a, j, k) (sym (name .three ∙ core-script (name .first) (name .others) (g .0) (g .1))))
 
   pub report-root : p .start ≡ Root → (l s r : Tag) → l ≡ und → s ≡ [] → r ≡ [] → partsReport p l s r ≡ reportOf (good (identifierOf (split x)))

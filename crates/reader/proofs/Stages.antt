@@ -4,7 +4,7 @@ use mathlib.Core.Path.{_≡_, refl, sym, ap, ap₂, _∙_}
 use mathlib.Core.Bool.{true, false}
 use mathlib.Core.List.{List, [], _∷_, _++_}
 use mathlib.Core.Option.{Option, none, some}
-use Prim.Native.Nat.{ℕ, _+_}
+use Prim.Native.Nat.{ℕ}
 use Rattle.standard.specs.Tag.{Tag}
 use Rattle.standard.specs.Grammar.{Kind, aScript, aRegion, aVariant, aNone, kindOf, kind, variantKind, sizeOf, isVariant, only}
 use Rattle.standard.specs.Reading.{optional, Stage, afterLanguage, afterScript, afterRegion, afterRoot, accept, restFault, ofKind, find}

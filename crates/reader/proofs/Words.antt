@@ -15,23 +15,23 @@ use Rattle.standard.specs.Reading.{split}
 use Rattle.subtag.proofs.Walk.{at-end, at-sep, at-byte}
 use Rattle.standard.proofs.General.{le-or-lt}
 use Rattle.subtag.specs.Bytes.{cased, casedByte}
-use Rattle.subtag.proofs.Raised.{raised-nil}
+use Rattle.subtag.proofs.Cased.{cased-nil}
 use Rattle.reader.specs.Words.{wordIs}
 
-raised-cons : (n b : ℕ) (t : Tag) → cased n (b ∷ t) ≡ casedByte 0 n b ∷ cased (n - 1) t
+cased-cons : (n b : ℕ) (t : Tag) → cased n (b ∷ t) ≡ casedByte 0 n b ∷ cased (n - 1) t
 unfolding cased casedByte
-raised-cons zero b t = refl
-raised-cons (suc n) b t = let z : suc n - 1 ≡ n = omega arith in rw (lt-ltb 0 (suc n) (omega arith), z)
+cased-cons zero b t = refl
+cased-cons (suc n) b t = let z : suc n - 1 ≡ n = omega arith in rw (lt-ltb 0 (suc n) (omega arith), z)
 
 -- at an index
-raised-at : (i n b : ℕ) → casedByte 0 (n - i) b ≡ casedByte i n b
+cased-at : (i n b : ℕ) → casedByte 0 (n - i) b ≡ casedByte i n b
 unfolding casedByte
-raised-at i n b = ⊎-elim (λ h. rw (le-ltb 0 (n - i) (omega arith), le-ltb i n h)) (λ h. rw (lt-ltb 0 (n - i) (omega arith), lt-ltb i n h)) (le-or-lt n i)
+cased-at i n b = ⊎-elim (λ h. rw (le-ltb 0 (n - i) (omega arith), le-ltb i n h)) (λ h. rw (lt-ltb 0 (n - i) (omega arith), lt-ltb i n h)) (le-or-lt n i)
 
 -- none
-pub raised-none : (t : Tag) → cased 0 t ≡ t
+pub cased-none : (t : Tag) → cased 0 t ≡ t
 unfolding cased
-raised-none t = refl
+cased-none t = refl
 
 abbrev front : List ℕ → Tag
 front s = headTag (split s)
@@ -63,20 +63,20 @@ module _ (s : List ℕ) (n : ℕ) (bytes : List ℕ) (len : ℕ) (w : Wording s 
       let m = w .room in
       let d : n - len - 1 ≡ n - (len + 1) = omega arith in
       let t : take (len + 1) (set bytes len r) ≡ take len bytes ++ (r ∷ []) = rw add-one (take-suc-set bytes len r (omega arith)) in
-      let byte : casedByte 0 (n - len) (lowerByte (getD s len 0)) ≡ r = raised-at len n (lowerByte (getD s len 0)) ∙ ap (casedByte len n) (sym f) ∙ sym g in
+      let byte : casedByte 0 (n - len) (lowerByte (getD s len 0)) ≡ r = cased-at len n (lowerByte (getD s len 0)) ∙ ap (casedByte len n) (sym f) ∙ sym g in
       record {
         small = q;
         within = omega arith;
         room = length-set bytes len r ∙ m;
         size = omega arith;
-        text = w .text ∙ ap (λ (x : Tag). take len bytes ++ x) (ap (cased (n - len)) a ∙ raised-cons (n - len) (lowerByte (getD s len 0)) (front (drop (len + 1) s)) ∙ ap₂ (λ (x : ℕ) (y : ℕ). x ∷ cased y (front (drop (len + 1) s))) byte d)
+        text = w .text ∙ ap (λ (x : Tag). take len bytes ++ x) (ap (cased (n - len)) a ∙ cased-cons (n - len) (lowerByte (getD s len 0)) (front (drop (len + 1) s)) ∙ ap₂ (λ (x : ℕ) (y : ℕ). x ∷ cased y (front (drop (len + 1) s))) byte d)
             ∙ sym (append-assoc (take len bytes) (r ∷ []) (cased (n - (len + 1)) (front (drop (len + 1) s))))
             ∙ ap (λ (x : List ℕ). x ++ cased (n - (len + 1)) (front (drop (len + 1) s))) (sym t);
       }
 
   wording-done : front (drop len s) ≡ [] → wordIs (record { bytes = bytes; len = len }) ≡ cased n (front s)
   unfolding wordIs
-  wording-done e = sym (w .text ∙ ap (λ (x : Tag). take len bytes ++ cased (n - len) x) e ∙ ap (_++_ (take len bytes)) (raised-nil (n - len)) ∙ append-nil (take len bytes))
+  wording-done e = sym (w .text ∙ ap (λ (x : Tag). take len bytes ++ cased (n - len) x) e ∙ ap (_++_ (take len bytes)) (cased-nil (n - len)) ∙ append-nil (take len bytes))
 
   pub wording-sep : len < length s → separator (getD s len 0) ≡ true → wordIs (record { bytes = bytes; len = len }) ≡ cased n (front s)
   wording-sep h e = wording-done (at-sep s len h e)

@@ -8,7 +8,6 @@ use marks::Marking;
 use steps::Stage;
 use steps::State;
 use steps::Verdict;
-use subtag::Class;
 ghost use mathlib.Core.Path.{_≡_};
 ghost use mathlib.Core.Bool.{not};
 ghost use mathlib.Core.Option.{none};
@@ -261,14 +260,7 @@ pub enum Found {
 fn foreign(b: u8) -> bool
     ensures { λ r. ⌜ r ≡ not (clean b) ⌝ }
 {
-    let k = subtag::class_of(b);
-    match k {
-        Class::Small => false,
-        Class::Capital => false,
-        Class::Digit => false,
-        Class::Separator => false,
-        Class::Other => true,
-    }
+    subtag::other_class(subtag::class_of(b))
 }
 
 // The first byte that is no letter, digit or separator.

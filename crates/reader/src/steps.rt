@@ -6,6 +6,9 @@ ghost use mathlib.Core.Path.{_≡_};
 ghost use Rattle.reader.specs.Walk.{afterSingleton, pending as pendingOf, stageVerdict, verdictOf};
 ghost use Rattle.reader.specs.Steps.{kindStage, accepts as acceptsAt, firstFrom, stageFrom, partFrom, keywordsFrom, transformFrom, valueFrom, otherFrom, opensFrom, nextFrom};
 
+// The word `root`, as the number of a subtag.
+const ROOT: u64 = 8245931986745556992;
+
 // How far a language part has come.
 pub enum Stage {
     Language,
@@ -105,7 +108,7 @@ fn first_state(t: Subtag) -> State
         return State::Main(Stage::Language);
     }
     // the number of `root`
-    if t.key == 8245931986745556992 {
+    if t.key == ROOT {
         return State::Main(Stage::Root);
     }
     let k = subtag::kind_of(t);

@@ -1,9 +1,9 @@
 pub mod Tags
 pub mod Pieces
 pub mod Threes
-pub mod Judges
 pub mod Passes
 pub mod Sorted
 pub mod Fronts
 pub mod Texts
 pub mod Ends
+pub mod Tests

@@ -4,7 +4,7 @@ use mathlib.Core.Path.{_≡_, refl, sym, ap, ap₂, _∙_}
 use mathlib.Core.Bool.{Bool, true, false, cond, not, _&&_}
 use mathlib.Core.List.{List, [], _∷_, _++_}
 use mathlib.Core.Option.{Option, none, some, Option·some-ne-none}
-use Prim.Native.Nat.{ℕ, suc, _+_, _-_, Ordering, Ordering·lt, Ordering·eq, Ordering·gt}
+use Prim.Native.Nat.{ℕ, suc, _+_, Ordering, Ordering·lt, Ordering·eq, Ordering·gt}
 use native.Mathlib.Omega.{arith}
 use lib.Dec.{eqb, leb}
 use lib.ListN.{length, drop}
@@ -29,7 +29,7 @@ use Rattle.row_shapes.specs.Rows.{languageName, scriptName, regionName, 
 use Rattle.row_shapes.proofs.Tags.{language-every, script-every, region-every, variant-every}
 use Rattle.row_shapes.proofs.Pieces.{Free, pieces-here, pieces-next, pieces-free, joined-pieces}
 use Rattle.row_shapes.proofs.Threes.{tail, region-tail, three-pieces}
-use Rattle.row_shapes.proofs.Judges.{alias-by}
+use Rattle.row_shapes.proofs.Tests.{alias-by}
 use Rattle.row_shapes.proofs.Passes.{isLess, below-order, KeyAt, shape-key, row-split}
 
 -- not below a tab

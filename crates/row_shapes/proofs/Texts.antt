@@ -39,7 +39,7 @@ use Rattle.standard.proofs.Table.{three-printed as three-text, pieces-some}
 use Rattle.row_shapes.proofs.Fronts.{led, printed-led}
 use Rattle.row_shapes.proofs.Sorted.{every-append}
 use Rattle.row_shapes.proofs.Passes.{row-split, lastOf, pass-short, pass-shape}
-use Rattle.row_shapes.proofs.Judges.{known-is, alias-by}
+use Rattle.row_shapes.proofs.Tests.{known-is, alias-by}
 use Rattle.table.proofs.Lines.{drop-take}
 
 -- The bytes of subtags, and the separator, are above every byte that ends a field.

@@ -124,7 +124,7 @@ pub fn name_of(line: &[u8]) -> Name
             end: 8,
         };
     }
-    let end = byte_string::end_of(line, 9, 0);
+    let end = byte_string::end_of(line, b'\t', 0);
     let kind = kind_named(&line[..end]);
     Name { kind, end }
 }
@@ -140,7 +140,7 @@ fn alias_line(line: &[u8]) -> Fields
         return no_fields();
     }
     let start = a + 1;
-    let tab = byte_string::end_of(line, 9, start);
+    let tab = byte_string::end_of(line, b'\t', start);
     if line.len() <= tab {
         return no_fields();
     }
@@ -152,7 +152,7 @@ fn alias_line(line: &[u8]) -> Fields
 pub(crate) fn alias_row(s: &[u8]) -> Line
     ensures { λ r. ⌜ LineAt Table.Aliases (now (s .entry)) r ⌝ }
 {
-    let end = byte_string::end_of(s, 10, 0);
+    let end = byte_string::end_of(s, b'\n', 0);
     if s.len() <= end {
         return no_line();
     }

@@ -40,7 +40,7 @@ fn script_len(s: &[u8]) -> usize
     if s.len() < 2 {
         return 0;
     }
-    if s[0] != 45 {
+    if s[0] != b'-' {
         return 0;
     }
     if !subtag::is_capital(s[1]) {
@@ -59,7 +59,7 @@ fn region_len(s: &[u8]) -> usize
     if s.len() < 1 {
         return 0;
     }
-    if s[0] != 45 {
+    if s[0] != b'-' {
         return 0;
     }
     if run_of(s, 1, Bytes::Capital) == 2 {
@@ -131,7 +131,7 @@ pub fn ends_of(s: &[u8]) -> Three
     requires { ⌜ isThree (now s) ≡ true ⌝ }
     ensures { λ r. ⌜ ThreeAt (now (s .entry)) r ⌝ }
 {
-    let language = byte_string::end_of(s, 45, 0);
+    let language = byte_string::end_of(s, b'-', 0);
     let script = script_end(language, s.len());
     Three {
         ok: true,

@@ -8,7 +8,7 @@ use mathlib.Core.Option.{Option, none, some, Option·none-ne-some, Option·some-
 use Prim.Native.Nat.{ℕ, suc, _+_}
 use lib.Dec.{eqb, eqb→eq, eqb-refl}
 use lib.ListN.{length}
-use Rattle.standard.specs.Tag.{Tag, order, same, present, replace, onto, All}
+use Rattle.standard.specs.Tag.{Tag, order, same, present, replace, onto, All, text}
 use Rattle.standard.specs.Grammar.{title, upper, Kind, aScript, aRegion, aVariant, kindOf, isLanguage, languageSize, sizeOf}
 use Rattle.standard.specs.Identifier.{Three, und, Tables, withoutUnknown, complete, sameThree, Kept, Lawful}
 use Rattle.standard.specs.Reading.{optional, joined, ofKind}
@@ -212,16 +212,16 @@ likely-free-strict t (b ∷ c ∷ []) e = record { key = b; value = c; are = ref
 likely-free-strict t (b ∷ c ∷ d ∷ f) e = no e
 
 abbrev languageName : Tag
-languageName = (108 ∷ 97 ∷ 110 ∷ 103 ∷ 117 ∷ 97 ∷ 103 ∷ 101 ∷ [])
+languageName = text "language"
 
 abbrev scriptName : Tag
-scriptName = (115 ∷ 99 ∷ 114 ∷ 105 ∷ 112 ∷ 116 ∷ [])
+scriptName = text "script"
 
 abbrev regionName : Tag
-regionName = (114 ∷ 101 ∷ 103 ∷ 105 ∷ 111 ∷ 110 ∷ [])
+regionName = text "region"
 
 abbrev variantName : Tag
-variantName = (118 ∷ 97 ∷ 114 ∷ 105 ∷ 97 ∷ 110 ∷ 116 ∷ [])
+variantName = text "variant"
 
 isNone-eq : {A : Type 0} (o : Option A) → isNone o ≡ true → o ≡ none
 unfolding isNone

@@ -1,7 +1,7 @@
 -- The class of a byte decides the standard's tests of it, and its letter case.
 -- Assumes nothing.
 use mathlib.Core.Path.{_≡_, sym, ap, _∙_}
-use mathlib.Core.Bool.{true, false, cond, _&&_}
+use mathlib.Core.Bool.{Bool, true, false, cond, _&&_}
 use Prim.Native.Nat.{ℕ, _+_, _-_, _≤_, _<_}
 use native.Mathlib.Omega.{arith}
 use lib.Dec.{leb}
@@ -101,17 +101,9 @@ module _ (b : ℕ) {k l : Class} (e : k ≡ classOf b) (f : k ≡ l) where
   unfolding upperByte
   upper-as = rw (classed b .small, class-is)
 
-  pub small-as : isSmall l ≡ small b
-  small-as = sym (classed b .small ∙ ap isSmall class-is)
-
-  pub capital-as : isCapital l ≡ capital b
-  capital-as = sym (classed b .capital ∙ ap isCapital class-is)
-
-  pub digit-as : isDigit l ≡ digit b
-  digit-as = sym (classed b .digit ∙ ap isDigit class-is)
-
-  pub separator-as : isSeparator l ≡ separator b
-  separator-as = sym (classed b .separator ∙ ap isSeparator class-is)
+-- a test that the class decides, by the code's answer for the class
+pub by-class : (b : ℕ) (test : Class → Bool) {k : Class} {r q : Bool} → r ≡ test k → k ≡ classOf b → q ≡ test (classOf b) → r ≡ q
+by-class b test e f g = e ∙ ap test f ∙ sym g
 
 pub capital-high : (b : ℕ) {k : Class} → k ≡ classOf b → k ≡ Capital → b ≤ 90
 capital-high b e f = (capital-in b (classed b .capital ∙ ap isCapital (sym e ∙ f))) .high

@@ -1,6 +1,6 @@
 pub mod Bytes
 pub mod Walk
-pub mod Judging
 pub mod Keys
 pub mod Shapes
-pub mod Raised
+pub mod Cased
+pub mod Scanning

@@ -122,13 +122,13 @@ split-next s h =
 pub judged : (s : List ℕ) (at : ℕ) (r : Subtag) → r ≡ subtagOf (headTag (split (take (length s - at) (drop at s)))) → r ≡ subtagOf (headTag (split (drop at s)))
 judged s at r e = e ∙ ap (λ (x : List ℕ). subtagOf (headTag (split x))) (take-all (length s - at) (drop at s) (simp length-drop (omega arith)))
 
-pub judged-len : (t : Tag) (r : Subtag) → r ≡ subtagOf t → r .len ≡ length t
+pub scanned-len : (t : Tag) (r : Subtag) → r ≡ subtagOf t → r .len ≡ length t
 unfolding subtagOf
-judged-len t r e = ap (λ (x : Subtag). x .len) e
+scanned-len t r e = ap (λ (x : Subtag). x .len) e
 
-pub judged-fits : (s : List ℕ) (at : ℕ) (r : Subtag) → r ≡ subtagOf (headTag (split (take (length s - at) (drop at s)))) → r .len ≤ length s - at
-judged-fits s at r e =
-    let n = judged-len (headTag (split (drop at s))) r (judged s at r e) in
+pub scanned-fits : (s : List ℕ) (at : ℕ) (r : Subtag) → r ≡ subtagOf (headTag (split (take (length s - at) (drop at s)))) → r .len ≤ length s - at
+scanned-fits s at r e =
+    let n = scanned-len (headTag (split (drop at s))) r (judged s at r e) in
     let f = rw length-drop at (label-fits (drop at s)) in
     omega arith
 

@@ -47,6 +47,13 @@ isSeparator Digit = false
 isSeparator Separator = true
 isSeparator Other = false
 
+abbrev pub isOther : Class → Bool
+isOther Small = false
+isOther Capital = false
+isOther Digit = false
+isOther Separator = false
+isOther Other = true
+
 -- 1 for a letter, and for a digit
 abbrev pub letterOf : Class → ℕ
 letterOf Small = 1

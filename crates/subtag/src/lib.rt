@@ -8,7 +8,7 @@ ghost use lib.Seq.{sets};
 ghost use Rattle.standard.specs.Tag.{headTag};
 ghost use Rattle.standard.specs.Grammar.{lowerByte, upperByte, separator, small, capital, digit as digitByte};
 ghost use Rattle.standard.specs.Reading.{split};
-ghost use Rattle.subtag.specs.Bytes.{classOf, isSeparator, letterOf, digitOf, normalByte, cased, casedByte};
+ghost use Rattle.subtag.specs.Bytes.{classOf, isSmall, isCapital, isDigit, isSeparator, isOther, letterOf, digitOf, normalByte, cased, casedByte};
 ghost use Rattle.subtag.specs.Subtags.{firstByte, subtagOf};
 ghost use Rattle.subtag.specs.Kinds.{languageFrom, kindFrom, kindIs, keywordFrom, fieldFrom};
 
@@ -70,7 +70,7 @@ pub(crate) fn normalise(b: u8) -> u8
     ensures { λ r. ⌜ r ≡ normalByte b ⌝ }
 {
     if is_separator(b) {
-        return 45;
+        return b'-';
     }
     lower(b)
 }
@@ -85,6 +85,58 @@ fn separates(k: Class) -> bool
         Class::Digit => false,
         Class::Separator => true,
         Class::Other => false,
+    }
+}
+
+// Is it the class of small letters?
+fn small_class(k: Class) -> bool
+    ensures { λ r. ⌜ r ≡ isSmall k ⌝ }
+{
+    match k {
+        Class::Small => true,
+        Class::Capital => false,
+        Class::Digit => false,
+        Class::Separator => false,
+        Class::Other => false,
+    }
+}
+
+// Of capitals?
+fn capital_class(k: Class) -> bool
+    ensures { λ r. ⌜ r ≡ isCapital k ⌝ }
+{
+    match k {
+        Class::Small => false,
+        Class::Capital => true,
+        Class::Digit => false,
+        Class::Separator => false,
+        Class::Other => false,
+    }
+}
+
+// Of digits?
+fn digit_class(k: Class) -> bool
+    ensures { λ r. ⌜ r ≡ isDigit k ⌝ }
+{
+    match k {
+        Class::Small => false,
+        Class::Capital => false,
+        Class::Digit => true,
+        Class::Separator => false,
+        Class::Other => false,
+    }
+}
+
+// Of what can stand in no identifier?
+pub fn other_class(k: Class) -> bool
+    ensures { λ r. ⌜ r ≡ isOther k ⌝ }
+{
+    match k {
+        Class::Small => false,
+        Class::Capital => false,
+        Class::Digit => false,
+        Class::Separator => false,
+        Class::Other => true,
     }
 }
 
@@ -182,19 +234,6 @@ pub fn scan(rest: &[u8]) -> Subtag
     }
 }
 
-// Writes src at the place at, in lower case and with the separator '-', and gives the next place.
-pub fn put_normalised(src: &[u8], out: &mut [u8], at: usize) -> usize
-    requires { ⌜ at + length (now src) ≤ length (now out) ⌝ }
-    ensures { λ r. ⌜ (r ≡ at + length (now (src .entry))) × (now (out .exit) ≡ sets (now (out .entry)) at (map normalByte (now (src .entry)))) ⌝ }
-{
-    let mut i = 0;
-    while i < src.len() {
-        out[at + i] = normalise(src[i]);
-        i += 1;
-    }
-    at + i
-}
-
 // The byte at the index i, of which the first count are to be capitals.
 pub fn recase(b: u8, i: usize, count: usize) -> u8
     ensures { λ r. ⌜ r ≡ casedByte i count b ⌝ }
@@ -218,6 +257,14 @@ pub fn put_cased(src: &[u8], count: usize, out: &mut [u8], at: usize) -> usize
     at + i
 }
 
+// Writes src at the place at, in lower case and with the separator '-', and gives the next place.
+pub fn put_normalised(src: &[u8], out: &mut [u8], at: usize) -> usize
+    requires { ⌜ at + length (now src) ≤ length (now out) ⌝ }
+    ensures { λ r. ⌜ (r ≡ at + length (now (src .entry))) × (now (out .exit) ≡ sets (now (out .entry)) at (map normalByte (now (src .entry)))) ⌝ }
+{
+    put_cased(src, 0, out, at)
+}
+
 // What a subtag after the language can be; no two at once.
 pub enum Kind {
     Script,
@@ -229,40 +276,19 @@ pub enum Kind {
 pub fn is_small(b: u8) -> bool
     ensures { λ r. ⌜ r ≡ small b ⌝ }
 {
-    let k = class_of(b);
-    match k {
-        Class::Small => true,
-        Class::Capital => false,
-        Class::Digit => false,
-        Class::Separator => false,
-        Class::Other => false,
-    }
+    small_class(class_of(b))
 }
 
 pub fn is_capital(b: u8) -> bool
     ensures { λ r. ⌜ r ≡ capital b ⌝ }
 {
-    let k = class_of(b);
-    match k {
-        Class::Small => false,
-        Class::Capital => true,
-        Class::Digit => false,
-        Class::Separator => false,
-        Class::Other => false,
-    }
+    capital_class(class_of(b))
 }
 
 pub fn is_digit(b: u8) -> bool
     ensures { λ r. ⌜ r ≡ digitByte b ⌝ }
 {
-    let k = class_of(b);
-    match k {
-        Class::Small => false,
-        Class::Capital => false,
-        Class::Digit => true,
-        Class::Separator => false,
-        Class::Other => false,
-    }
+    digit_class(class_of(b))
 }
 
 // A language: 2, 3 or 5 to 8 letters.

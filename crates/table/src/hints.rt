@@ -65,7 +65,7 @@ fn mark(hints: &mut [u16], slot: usize, start: usize, b: u8)
     requires { ⌜ placeOf (length (now hints)) slot < length (now hints) ⌝ }
     ensures { λ _. ⌜ now (hints .exit) ≡ hintsPast (now (hints .entry)) (placeOf (length (now (hints .entry))) slot) start b ⌝ }
 {
-    if b == 9 {
+    if b == b'\t' {
         let at = place_of(hints.len(), slot);
         hints[at] = hint_of(hints[at], start);
     }
@@ -75,7 +75,7 @@ fn mark(hints: &mut [u16], slot: usize, start: usize, b: u8)
 fn start_past(start: usize, b: u8, next: usize) -> usize
     ensures { λ r. ⌜ r ≡ startPast start b next ⌝ }
 {
-    if b == 10 {
+    if b == b'\n' {
         return next;
     }
     start
@@ -86,7 +86,7 @@ fn slot_past(slot: usize, b: u8) -> usize
     requires { ⌜ slot < 16384 ⌝ }
     ensures { λ r. ⌜ (r ≡ slotPast slot b) × (r < 16384) ⌝ }
 {
-    if b == 10 {
+    if b == b'\n' {
         return 0;
     }
     step(slot, b)
@@ -159,7 +159,7 @@ pub fn opens(t: &[u8], p: usize) -> bool
     if p == 0 {
         return true;
     }
-    t[p - 1] == 10
+    t[p - 1] == b'\n'
 }
 
 // The row at p, if a line starts there and begins with the key and a tab.
@@ -169,7 +169,7 @@ fn row_at(t: &[u8], p: usize, key: &[u8]) -> Found
     if !opens(t, p) {
         return nothing();
     }
-    let e = end_of(t, 10, p);
+    let e = end_of(t, b'\n', p);
     if starts_row(&t[p..e], key) {
         let start = p + key.len() + 1;
         return Found {

@@ -27,7 +27,7 @@ pub fn starts_row(line: &[u8], key: &[u8]) -> bool
         }
         i += 1;
     }
-    9 == line[n]
+    b'\t' == line[n]
 }
 
 // Whether there is a row with the key, and where its value is in the table.
@@ -44,7 +44,7 @@ pub fn find(t: &[u8], key: &[u8]) -> Found
     let n = key.len();
     let mut i = 0;
     while i < t.len() {
-        let e = end_of(t, 10, i);
+        let e = end_of(t, b'\n', i);
         if starts_row(&t[i..e], key) {
             let start = i + n + 1;
             return Found {
@@ -105,7 +105,7 @@ fn line_start(t: &[u8], lo: usize, from: usize) -> usize
 {
     let mut m = from;
     while lo < m {
-        if t[m - 1] == 10 {
+        if t[m - 1] == b'\n' {
             return m;
         }
         m -= 1;
@@ -123,7 +123,7 @@ fn locate(t: &[u8], key: &[u8]) -> usize
         let mid = lo + (hi - lo) / 2;
         let m = line_start(t, lo, mid);
         // no 0A stands between m and mid
-        let e = end_of(t, 10, mid);
+        let e = end_of(t, b'\n', mid);
         if below_row(&t[m..e], key) {
             lo = e + 1;
         } else {
@@ -140,7 +140,7 @@ pub fn find_sorted(t: &[u8], key: &[u8]) -> Found
     let n = key.len();
     let i = locate(t, key);
     if i < t.len() {
-        let e = end_of(t, 10, i);
+        let e = end_of(t, b'\n', i);
         if starts_row(&t[i..e], key) {
             let value = i + n + 1;
             return Found {
@@ -158,8 +158,9 @@ pub fn find_sorted(t: &[u8], key: &[u8]) -> Found
 }
 
 // As lookup, of a sorted table.
-pub(crate) fn lookup_sorted<'a>(t: &'a [u8], key: &[u8], found: &mut bool) -> &'a [u8]
-    ensures { λ r. ⌜ (Sorted (now (t .entry)) → now r ≡ valueOf (now (t .entry)) (located (now (t .entry)) (now (key .entry)))) ⌝ }
+pub fn lookup_sorted<'a>(t: &'a [u8], key: &[u8], found: &mut bool) -> &'a [u8]
+    ensures { λ r. let t = now (t .entry) in
+        ⌜ (length (now r) ≤ length t) × (Sorted t → now r ≡ valueOf t (located t (now (key .entry)))) ⌝ }
     ensures { λ _. ⌜ (Sorted (now (t .entry)) → now (found .exit) ≡ (located (now (t .entry)) (now (key .entry))) .found) ⌝ }
 {
     let f = find_sorted(t, key);

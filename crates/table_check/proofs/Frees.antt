@@ -28,7 +28,7 @@ use Rattle.row_shapes.proofs.Tags.{language-long, script-length, region-sizes, 
 use Rattle.byte_string.proofs.Stores.{all-from}
 use Rattle.row_shapes.proofs.Pieces.{pieces-first, others-at, others-none}
 use Rattle.row_shapes.proofs.Threes.{ThreeOk, three-ok, parse-pieces}
-use Rattle.row_shapes.proofs.Judges.{alias-by}
+use Rattle.row_shapes.proofs.Tests.{alias-by}
 use Rattle.aliases.specs.Keys.{kindKey, isKey}
 use Rattle.table_check.specs.Free.{freeThree, ownTag, freeAlias}
 

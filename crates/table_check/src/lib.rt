@@ -32,7 +32,7 @@ fn parent_free(a: &[u8], hints: &[u16], p: &[u8], own: &[u16], i: usize, e: usiz
     if !two_free(a, hints, &p[i..e]) {
         return false;
     }
-    let x = byte_string::end_of(&p[i..e], 9, 0);
+    let x = byte_string::end_of(&p[i..e], b'\t', 0);
     key_reaches_root(p, own, i, i + x, e)
 }
 
@@ -62,7 +62,7 @@ fn check_clash(a: &[u8], hints: &[u16], t: &[u8], own: &[u16], table: Table) -> 
 {
     let mut i = 0;
     while i < t.len() {
-        let e = byte_string::end_of(t, 10, i);
+        let e = byte_string::end_of(t, b'\n', i);
         if !free(a, hints, t, own, i, e, table) {
             return Clash::At(i);
         }

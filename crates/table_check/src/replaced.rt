@@ -4,7 +4,7 @@ use aliases::keys::is_key;
 use row_shapes::aliases::AliasKind;
 ghost use mathlib.Core.Path.{_≡_};
 ghost use mathlib.Core.Bool.{true};
-ghost use Prim.Native.Nat.{_+_, _≤_, _<_};
+ghost use Prim.Native.Nat.{_+_, _≤_};
 ghost use lib.ListN.{length};
 ghost use Rattle.standard.specs.Table.{pieces, parse, isThree, aliasShape};
 ghost use Rattle.table.specs.Hints.{Indexed};
@@ -46,7 +46,7 @@ fn own(kind: AliasKind, value: &[u8]) -> &[u8]
 {
     match kind {
         AliasKind::Language => {
-            let l = byte_string::end_of(value, 45, 0);
+            let l = byte_string::end_of(value, b'-', 0);
             &value[..l]
         }
         AliasKind::Script => value,
@@ -64,7 +64,7 @@ pub(crate) fn alias_free(a: &[u8], hints: &[u16], line: &[u8]) -> bool
     let n = row_shapes::aliases::name_of(line);
     let kind = n.kind;
     let start = n.end + 1;
-    let y = byte_string::end_of(line, 9, start);
+    let y = byte_string::end_of(line, b'\t', start);
     let from = y + 1;
     !is_key(a, hints, kind, own(kind, &line[from..]))
 }
@@ -74,7 +74,7 @@ pub(crate) fn two_free(a: &[u8], hints: &[u16], line: &[u8]) -> bool
     requires { ⌜ Indexed (now a) (now hints) × (isThrees (pieces 9 (now line)) ≡ true) ⌝ }
     ensures { λ r. ⌜ r ≡ freeThree (now (a .entry)) (parse (secondOf (pieces 9 (now (line .entry))))) ⌝ }
 {
-    let x = byte_string::end_of(line, 9, 0);
+    let x = byte_string::end_of(line, b'\t', 0);
     let start = x + 1;
     value_free(a, hints, &line[start..])
 }

@@ -13,6 +13,7 @@ use borrow.Author.Tests.{eq-eqb, ne-eqb}
 use Rattle.byte_string.proofs.Stores.{wrote-two}
 use Rattle.standard.proofs.General.{le-or-lt}
 use Rattle.tsv.specs.Fields.{Bytes, digitsOnto, decimal, field, askedOf, tableText}
+use Rattle.standard.specs.Tag.{text}
 
 -- A number that is being written: the digits from `start` on, and what is left of it.
 pub record Writing (n rest start : ℕ) (bytes : Bytes) : Type 0 where
@@ -124,12 +125,12 @@ pub number-length : (n mark : ℕ) → length (field (decimal n) mark) ≤ 21
 number-length n mark = omega (arith, field-length (decimal n) mark, decimal-length n)
 
 -- the line of a bad table
-pub table-word : length (field (116 ∷ 97 ∷ 98 ∷ 108 ∷ 101 ∷ []) 9) ≡ 6
+pub table-word : length (field (text "table") 9) ≡ 6
 unfolding field
 table-word = refl
 
 pub table-written : (o o₁ o₂ o₃ o₄ : Bytes) (p q r e number place table : ℕ)
-    → (p ≡ 0 + length (field (116 ∷ 97 ∷ 98 ∷ 108 ∷ 101 ∷ []) 9)) × (o₁ ≡ sets o 0 (field (116 ∷ 97 ∷ 98 ∷ 108 ∷ 101 ∷ []) 9))
+    → (p ≡ 0 + length (field (text "table") 9)) × (o₁ ≡ sets o 0 (field (text "table") 9))
     → (q ≡ p + length (field (decimal number) 9)) × (o₂ ≡ sets o₁ p (field (decimal number) 9))
     → (r ≡ q + length (field (decimal table) 9)) × (o₃ ≡ sets o₂ q (field (decimal table) 9))
     → (e ≡ r + length (field (decimal place) 10)) × (o₄ ≡ sets o₃ r (field (decimal place) 10))
@@ -139,4 +140,4 @@ table-written o o₁ o₂ o₃ o₄ p q r e number place table a b c d =
     let t = field (decimal table) 9 ++ field (decimal place) 10 in
     let w = wrote-two o₂ o₃ o₄ q r e (field (decimal table) 9) (field (decimal place) 10) t refl (c .0) (c .1) (d .0) (d .1) in
     let v = wrote-two o₁ o₂ o₄ p q e (field (decimal number) 9) t (field (decimal number) 9 ++ t) refl (b .0) (b .1) (w .0) (w .1) in
-    wrote-two o o₁ o₄ 0 p e (field (116 ∷ 97 ∷ 98 ∷ 108 ∷ 101 ∷ []) 9) (field (decimal number) 9 ++ t) _ refl (a .0) (a .1) (v .0) (v .1)
+    wrote-two o o₁ o₄ 0 p e (field (text "table") 9) (field (decimal number) 9 ++ t) _ refl (a .0) (a .1) (v .0) (v .1)

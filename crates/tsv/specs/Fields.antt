@@ -5,6 +5,7 @@ use Prim.Native.Nat.{ℕ, zero, suc, _+_, _/_, _%_}
 use lib.Dec.{eqb}
 use lib.ListN.{take}
 use Rattle.tsv.specs.declared.Text.{Text}
+use Rattle.standard.specs.Tag.{text}
 
 abbrev pub Bytes : Type 0
 Bytes = List ℕ
@@ -29,7 +30,7 @@ askedOf n x = cond (eqb n 2 || eqb n 3) (45 ∷ []) x
 -- 01, A set of examples: a bad table gives the one line `table`, number, table, place.
 unfoldable pub tableText : ℕ → ℕ → ℕ → Bytes
 tableText number place table =
-    field (116 ∷ 97 ∷ 98 ∷ 108 ∷ 101 ∷ []) 9 ++ (field (decimal number) 9 ++ (field (decimal table) 9 ++ field (decimal place) 10))
+    field (text "table") 9 ++ (field (decimal number) 9 ++ (field (decimal table) 9 ++ field (decimal place) 10))
 
 unfoldable pub textIs : Text → Bytes
 textIs t = take (t .len) (t .bytes)

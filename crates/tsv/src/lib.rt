@@ -107,9 +107,9 @@ pub fn put_table(number: usize, place: usize, table: usize, out: &mut [u8]) -> u
     ensures { λ r. ⌜ (r ≡ length (tableText number place table)) × (now (out .exit) ≡ sets (now (out .entry)) 0 (tableText number place table)) × (r ≤ 80) ⌝ }
 {
     let p = put(b"table", 9, out, 0);
-    let q = put_number(number, 9, out, p);
-    let r = put_number(table, 9, out, q);
-    put_number(place, 10, out, r)
+    let q = put_number(number, b'\t', out, p);
+    let r = put_number(table, b'\t', out, q);
+    put_number(place, b'\n', out, r)
 }
 
 fn room() -> [u8; 80]

@@ -1,8 +1,8 @@
 -- `byte_string::put` meets its contract. Assumes nothing.
 use native.Mathlib.Omega.{arith}
 use mathlib.Core.Path.{_≡_, refl, _∙_}
-use Prim.Native.Nat.{_+_, _-_, _≤_}
-use lib.ListN.{length, getD, take, length-set}
+use Prim.Native.Nat.{_-_, _≤_}
+use lib.ListN.{length, take, length-set}
 use lib.Seq.{sets}
 use Rattle.byte_string.proofs.Stores as stores
 use Rattle.byte_string.proofs.put.Statement.{statement}
@@ -37,7 +37,7 @@ loop-again c =
     let l = c .before .before .loop in
     let a = c .before .before .before .args in (
       omega arith,
-      length-set (l .out) (a .at + l .i) (getD (a .src .now) (l .i) 0) ∙ l .inv .1,
+      length-set (l .out) _ _ ∙ l .inv .1,
       stores.plain-next (a .out .now) (l .out) (a .at) (a .src .now) (l .i) _ (l .inv .2) refl (omega arith),
     )
 

@@ -6,7 +6,7 @@ use Prim.Native.Nat.{suc, _-_, _≤_}
 use lib.ListN.{length, drop}
 use Rattle.standard.specs.Tag.{headTag}
 use Rattle.standard.specs.Reading.{badTag, wrongSize, split}
-use Rattle.subtag.proofs.Walk.{judged, judged-len}
+use Rattle.subtag.proofs.Walk.{judged, scanned-len}
 use Rattle.reader.specs.Parts.{foundAs}
 use Rattle.reader.proofs.Outcomes as outcomes
 use Rattle.reader.proofs.wrong_size.Statement.{statement}
@@ -23,7 +23,7 @@ length-at : (c : tie.After-scan Inv-loop μ-loop) → c .scan .result .len ≡ l
 length-at c =
     let s = c .before .before .before .before .args .id .now in
     let at = c .before .before .loop .at in
-    judged-len (headTag (split (drop at s))) (c .scan .result) (judged s at (c .scan .result) (c .scan .ensures))
+    scanned-len (headTag (split (drop at s))) (c .scan .result) (judged s at (c .scan .result) (c .scan .ensures))
 
 loop-holds : tie.Need-loop-holds Inv-loop μ-loop
 loop-holds c = (omega arith, refl)

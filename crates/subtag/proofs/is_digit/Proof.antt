@@ -1,5 +1,6 @@
--- `subtag::is_digit` meets its contract, class by class. Assumes nothing.
-use Rattle.subtag.proofs.Bytes.{digit-as}
+-- `subtag::is_digit` meets its contract. Assumes nothing.
+use Rattle.subtag.specs.Bytes.{isDigit}
+use Rattle.subtag.proofs.Bytes.{by-class, classed}
 use borrow.Author.Needs.{needs}
 use Rattle.subtag.proofs.is_digit.Statement.{statement}
 use Rattle.subtag.proofs.is_digit.Tie as tie
@@ -7,48 +8,11 @@ use Rattle.subtag.proofs.is_digit.Tie as tie
 class-of-requires : tie.Need-class-of-requires
 class-of-requires c κs = search needs
 
-enum-told : tie.Need-enum-told
-enum-told c = search needs
-
-enum-told-2 : tie.Need-enum-told-2
-enum-told-2 c = search needs
-
-enum-told-3 : tie.Need-enum-told-3
-enum-told-3 c = search needs
-
-enum-told-4 : tie.Need-enum-told-4
-enum-told-4 c = search needs
-
-enum-told-5 : tie.Need-enum-told-5
-enum-told-5 c = search needs
+digit-class-requires : tie.Need-digit-class-requires
+digit-class-requires c κs = search needs
 
 returns : tie.Need-returns
-returns c = digit-as _ (c .before .before .class-of .ensures) (c .enum-told .given .1)
-
-returns-2 : tie.Need-returns-2
-returns-2 c = digit-as _ (c .before .before .class-of .ensures) (c .enum-told2 .given .1)
-
-returns-3 : tie.Need-returns-3
-returns-3 c = digit-as _ (c .before .before .class-of .ensures) (c .enum-told3 .given .1)
-
-returns-4 : tie.Need-returns-4
-returns-4 c = digit-as _ (c .before .before .class-of .ensures) (c .enum-told4 .given .1)
-
-returns-5 : tie.Need-returns-5
-returns-5 c = digit-as _ (c .before .before .class-of .ensures) (c .enum-told5 .given .1)
+returns c = by-class _ isDigit (c .digit-class .ensures) (c .before .class-of .ensures) (classed _ .digit)
 
 pub is-digit-spec : {M : Type 1} → statement M
-is-digit-spec =
-    tie.close
-    (tie.spec
-    class-of-requires
-    enum-told
-    enum-told-2
-    enum-told-3
-    enum-told-4
-    enum-told-5
-    returns
-    returns-2
-    returns-3
-    returns-4
-    returns-5)
+is-digit-spec = tie.close (tie.spec class-of-requires digit-class-requires returns)

@@ -1,6 +1,6 @@
 -- `subtag::is_separator` meets its contract. Assumes nothing.
-use mathlib.Core.Path.{_∙_, refl}
-use Rattle.subtag.proofs.Bytes.{separator-as}
+use Rattle.subtag.specs.Bytes.{isSeparator}
+use Rattle.subtag.proofs.Bytes.{by-class, classed}
 use borrow.Author.Needs.{needs}
 use Rattle.subtag.proofs.is_separator.Statement.{statement}
 use Rattle.subtag.proofs.is_separator.Tie as tie
@@ -12,7 +12,7 @@ separates-requires : tie.Need-separates-requires
 separates-requires c κs = search needs
 
 returns : tie.Need-returns
-returns c = c .separates .ensures ∙ separator-as _ (c .before .class-of .ensures) refl
+returns c = by-class _ isSeparator (c .separates .ensures) (c .before .class-of .ensures) (classed _ .separator)
 
 pub is-separator-spec : {M : Type 1} → statement M
 is-separator-spec = tie.close (tie.spec class-of-requires separates-requires returns)

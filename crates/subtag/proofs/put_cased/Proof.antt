@@ -6,7 +6,7 @@ use mathlib.Core.List.{map}
 use Prim.Native.Nat.{_+_, _-_, _≤_}
 use lib.ListN.{length, take, length-set}
 use lib.Seq.{sets}
-use Rattle.subtag.proofs.Raised as raised
+use Rattle.subtag.proofs.Cased as cased-laws
 use Rattle.subtag.specs.Bytes.{normalByte, cased as raisedTag, casedByte}
 use Rattle.subtag.proofs.put_cased.Statement.{statement}
 use Rattle.subtag.proofs.put_cased.Tie as tie
@@ -18,7 +18,7 @@ abbrev μ-loop : tie.MeasureT-loop
 μ-loop src count out₀ at i₀ out i = length src - i
 
 loop-holds : tie.Need-loop-holds Inv-loop μ-loop
-loop-holds c = (omega arith, refl, raised.raised-start normalByte _ _ _)
+loop-holds c = (omega arith, refl, cased-laws.cased-start normalByte _ _ _)
 
 shared-slice-read-normalise : tie.Need-shared-slice-read-normalise Inv-loop μ-loop
 shared-slice-read-normalise c = omega arith
@@ -45,7 +45,7 @@ loop-again : tie.Need-loop-again Inv-loop μ-loop
 loop-again c =
     let l = c .before .before .before .before .loop in
     let a = c .before .before .before .before .before .before .before .args in
-    (omega arith, length-set (l .out) (a .at + l .i) _ ∙ l .inv .1, raised.raised-next normalByte _ _ _ _ _ _ _ (l .inv .2) (c .recase .ensures ∙ ap (casedByte (l .i) (a .count)) (c .before .normalise .ensures)) (omega arith))
+    (omega arith, length-set (l .out) (a .at + l .i) _ ∙ l .inv .1, cased-laws.cased-next normalByte _ _ _ _ _ _ _ (l .inv .2) (c .recase .ensures ∙ ap (casedByte (l .i) (a .count)) (c .before .normalise .ensures)) (omega arith))
 
 add-result : tie.Need-add-result Inv-loop μ-loop
 add-result c = omega arith
@@ -57,7 +57,7 @@ returns : tie.Need-returns Inv-loop μ-loop
 returns c =
     let l = c .before .loop in
     let a = c .before .before .before .before .args in
-    (omega arith, l .inv .2 ∙ raised.raised-all normalByte (a .count) (a .out .now) (a .at) (a .src .now) (l .i) (omega arith))
+    (omega arith, l .inv .2 ∙ cased-laws.cased-all normalByte (a .count) (a .out .now) (a .at) (a .src .now) (l .i) (omega arith))
 
 pub put-cased-spec : {M : Type 1} → statement M
 put-cased-spec =

@@ -1,79 +1,19 @@
--- `subtag::put_normalised` meets its contract. Assumes nothing.
-use native.Mathlib.Omega.{arith}
+-- `subtag::put_normalised` meets its contract: no byte becomes a capital. Assumes nothing.
 use borrow.Author.Needs.{needs}
-use mathlib.Core.Path.{_≡_, refl, _∙_}
-use Prim.Native.Nat.{_+_, _-_, _≤_}
-use mathlib.Core.List.{map}
-use lib.ListN.{length, take, length-set}
+use mathlib.Core.Path.{ap, _∙_}
 use lib.Seq.{sets}
-use Rattle.subtag.specs.Bytes.{normalByte}
-use Rattle.byte_string.proofs.Stores as stores
+use Rattle.subtag.proofs.Cased.{cased-none}
 use Rattle.subtag.proofs.put_normalised.Statement.{statement}
 use Rattle.subtag.proofs.put_normalised.Tie as tie
 
-abbrev Inv-loop : tie.InvT-loop
-Inv-loop src out₀ at i₀ out i =
-    (i ≤ length src) × (length out ≡ length out₀) × (out ≡ sets out₀ at (map normalByte (take i src)))
+put-cased-requires : tie.Need-put-cased-requires
+put-cased-requires c κs = search needs
 
-abbrev μ-loop : tie.MeasureT-loop
-μ-loop src out₀ at i₀ out i = length src - i
+same-length : tie.Need-same-length
+same-length c = search needs
 
-loop-holds : tie.Need-loop-holds Inv-loop μ-loop
-loop-holds c = (omega arith, refl, refl)
-
-shared-slice-read-normalise : tie.Need-shared-slice-read-normalise Inv-loop μ-loop
-shared-slice-read-normalise c = omega arith
-
-normalise-requires : tie.Need-normalise-requires Inv-loop μ-loop
-normalise-requires c κs = search needs
-
-add-out : tie.Need-add-out Inv-loop μ-loop
-add-out c = omega arith
-
-slice-write-out : tie.Need-slice-write-out Inv-loop μ-loop
-slice-write-out c = omega arith
-
-add-i : tie.Need-add-i Inv-loop μ-loop
-add-i c = omega arith
-
-loop-less : tie.Need-loop-less Inv-loop μ-loop
-loop-less c = omega arith
-
-loop-again : tie.Need-loop-again Inv-loop μ-loop
-loop-again c =
-    let l = c .before .before .before .loop in
-    let a = c .before .before .before .before .before .before .args in (
-      omega arith,
-      length-set (l .out) (a .at + l .i) (c .normalise .result) ∙ l .inv .1,
-      stores.store-next normalByte (a .out .now) (l .out) (a .at) (a .src .now) (l .i) (c .normalise .result) (l .inv .2) (c .normalise .ensures) (omega arith),
-    )
-
-add-result : tie.Need-add-result Inv-loop μ-loop
-add-result c = omega arith
-
-same-length : tie.Need-same-length Inv-loop μ-loop
-same-length c = c .before .loop .inv .1
-
-returns : tie.Need-returns Inv-loop μ-loop
-returns c =
-    let l = c .before .loop in
-    let a = c .before .before .before .before .args in
-    (omega arith, l .inv .2 ∙ stores.store-all normalByte (a .out .now) (a .at) (a .src .now) (l .i) (omega arith))
+returns : tie.Need-returns
+returns c = (c .before .before .put-cased .ensures .0, c .before .before .put-cased .ensures .1 ∙ ap (sets _ _) (cased-none _))
 
 pub put-normalised-spec : {M : Type 1} → statement M
-put-normalised-spec =
-    tie.close
-    (tie.spec
-    Inv-loop
-    μ-loop
-    loop-holds
-    shared-slice-read-normalise
-    normalise-requires
-    add-out
-    slice-write-out
-    add-i
-    loop-less
-    loop-again
-    add-result
-    same-length
-    returns)
+put-normalised-spec = tie.close (tie.spec put-cased-requires same-length returns)

@@ -4,12 +4,12 @@ use native.Mathlib.Omega.{arith}
 use mathlib.Core.Path.{sym, _∙_}
 use Prim.Native.Nat.{_-_}
 use lib.ListN.{length}
-use Rattle.subtag.proofs.Judging as judging
+use Rattle.subtag.proofs.Scanning as scanning
 use Rattle.subtag.proofs.scan.Statement.{statement}
 use Rattle.subtag.proofs.scan.Tie as tie
 
 abbrev Inv-loop : tie.InvT-loop
-Inv-loop rest first letters₀ digits₀ key₀ weight₀ len₀ letters digits key weight len = judging.Judging rest letters digits key weight len
+Inv-loop rest first letters₀ digits₀ key₀ weight₀ len₀ letters digits key weight len = scanning.Judging rest letters digits key weight len
 
 abbrev μ-loop : tie.MeasureT-loop
 μ-loop rest first letters₀ digits₀ key₀ weight₀ len₀ letters digits key weight len = length rest - len
@@ -18,7 +18,7 @@ first-of-requires : tie.Need-first-of-requires Inv-loop μ-loop
 first-of-requires c κs = search needs
 
 loop-holds : tie.Need-loop-holds Inv-loop μ-loop
-loop-holds c = judging.judging-start _
+loop-holds c = scanning.scanning-start _
 
 shared-slice-read-b : tie.Need-shared-slice-read-b Inv-loop μ-loop
 shared-slice-read-b c = omega arith
@@ -32,7 +32,7 @@ separates-requires c κs = search needs
 returns : tie.Need-returns Inv-loop μ-loop
 returns c =
     let l = c .before .before .before .before .before .loop in
-    judging.judging-sep _ _ _ _ _ _ (l .inv) (c .before .before .class-of .result) _ (c .before .before .before .before .loop-test .taken) (c .before .before .class-of .ensures) (sym (c .before .separates .ensures) ∙ c .if1 .taken)
+    scanning.judging-sep _ _ _ _ _ _ (l .inv) (c .before .before .class-of .result) _ (c .before .before .before .before .loop-test .taken) (c .before .before .class-of .ensures) (sym (c .before .separates .ensures) ∙ c .if1 .taken)
     (c .before .before .before .before .before .before .first-of .ensures)
 
 letter-requires : tie.Need-letter-requires Inv-loop μ-loop
@@ -41,7 +41,7 @@ letter-requires c κs = search needs
 add-letters : tie.Need-add-letters Inv-loop μ-loop
 add-letters c =
     let l = c .before .before .before .before .before .before .loop in
-    let h = judging.letter-le (c .before .before .before .class-of .result) in
+    let h = scanning.letter-le (c .before .before .before .class-of .result) in
     let e = c .letter .ensures in
     omega arith
 
@@ -51,7 +51,7 @@ digit-requires c κs = search needs
 add-digits : tie.Need-add-digits Inv-loop μ-loop
 add-digits c =
     let l = c .before .before .before .before .before .before .before .loop in
-    let h = judging.digit-le (c .before .before .before .before .class-of .result) in
+    let h = scanning.digit-le (c .before .before .before .before .class-of .result) in
     let e = c .digit .ensures in
     omega arith
 
@@ -64,13 +64,13 @@ wide-requires c κs = search needs
 mul-key : tie.Need-mul-key Inv-loop μ-loop
 mul-key c =
     let l = c .before .before .before .before .before .before .before .before .before .loop in
-    let p = judging.product-fits (c .wide .result) (l .weight) (c .wide .ensures .1) in
+    let p = scanning.product-fits (c .wide .result) (l .weight) (c .wide .ensures .1) in
     omega arith
 
 add-key : tie.Need-add-key Inv-loop μ-loop
 add-key c =
     let l = c .before .before .before .before .before .before .before .before .before .loop in
-    let p = judging.product-fits (c .wide .result) (l .weight) (c .wide .ensures .1) in
+    let p = scanning.product-fits (c .wide .result) (l .weight) (c .wide .ensures .1) in
     omega arith
 
 add-len : tie.Need-add-len Inv-loop μ-loop
@@ -83,14 +83,14 @@ loop-again : tie.Need-loop-again Inv-loop μ-loop
 loop-again c =
     let l = c .before .before .before .before .before .before .before .before .before .loop in
     let k = c .before .before .before .before .before .before .class-of in
-    judging.judging-more _ _ _ _ _ _ (l .inv) (k .result) (c .before .before .before .letter .result) (c .before .before .digit .result) (c .wide .result)
+    scanning.judging-more _ _ _ _ _ _ (l .inv) (k .result) (c .before .before .before .letter .result) (c .before .before .digit .result) (c .wide .result)
     (c .before .before .before .before .before .before .before .before .loop-test .taken) (k .ensures) (sym (c .before .before .before .before .before .separates .ensures) ∙ c .before .before .before .before .if1 .left)
     (c .before .before .before .letter .ensures) (c .before .before .digit .ensures) (c .wide .ensures .0 ∙ c .before .lower .ensures) (c .wide .ensures .1)
 
 returns-2 : tie.Need-returns-2 Inv-loop μ-loop
 returns-2 c =
     let l = c .before .loop in
-    judging.judging-end _ _ _ _ _ _ (l .inv) _ (c .loop-test .left) (c .before .before .first-of .ensures)
+    scanning.judging-end _ _ _ _ _ _ (l .inv) _ (c .loop-test .left) (c .before .before .first-of .ensures)
 
 pub scan-spec : {M : Type 1} → statement M
 scan-spec =

@@ -1,4 +1,5 @@
 -- `table::lookup_sorted` meets its contract. Assumes nothing.
+use native.Mathlib.Omega.{arith}
 use Rattle.table.proofs.Lines.{cut-value, cut-found}
 use borrow.Author.Needs.{needs}
 use Rattle.table.proofs.lookup_sorted.Statement.{statement}
@@ -20,7 +21,7 @@ part-result-end : tie.Need-part-result-end
 part-result-end c = search needs
 
 returns : tie.Need-returns
-returns c = let f = c .before .before .find-sorted in (λ s. cut-value _ (f .result) _ (f .ensures .0 s), λ s. cut-found (f .result) _ (f .ensures .0 s))
+returns c = let f = c .before .before .find-sorted in ((omega arith, λ s. cut-value _ (f .result) _ (f .ensures .0 s)), λ s. cut-found (f .result) _ (f .ensures .0 s))
 
 pub lookup-sorted-spec : {M : Type 1} → statement M
 lookup-sorted-spec =

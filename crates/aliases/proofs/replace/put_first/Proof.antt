@@ -7,8 +7,8 @@ use lib.ListN.{length, length-map}
 use lib.Seq.{sets}
 use Rattle.standard.specs.Tag.{Tag}
 use Rattle.subtag.specs.Bytes.{normalByte, cased as raisedTag}
-use Rattle.subtag.proofs.Raised.{raised-length}
-use Rattle.aliases.proofs.Raised as raised
+use Rattle.subtag.proofs.Cased.{cased-length}
+use Rattle.aliases.proofs.Cased as cased-laws
 use borrow.Author.Needs.{needs}
 use Rattle.aliases.proofs.replace.put_first.Statement.{statement}
 use Rattle.aliases.proofs.replace.put_first.Tie as tie
@@ -24,7 +24,7 @@ returns c =
     let p = c .before .before in
     let a = p .before .before .before .before .before .before .args in
     let z : length (map normalByte (a .given .now)) ≡ 0 = omega (arith, length-map (a .given .now) normalByte) in
-    let e = raised.pick-none (a .count) (map normalByte (a .given .now)) (a .brought .now) z in
+    let e = cased-laws.pick-none (a .count) (map normalByte (a .given .now)) (a .brought .now) z in
     (p .put .ensures .0 ∙ ap (λ (t : Tag). a .at + length t) (sym e), p .put .ensures .1 ∙ ap (sets (a .out .now) (a .at)) (sym e))
 
 put-cased-requires : tie.Need-put-cased-requires
@@ -40,8 +40,8 @@ returns-2 c =
     let n = p .before .before .if1 .left in
     let z = length-map (a .given .now) normalByte in
     let t = raisedTag (a .count) (map normalByte (a .given .now)) in
-    let e = raised.pick-some (a .count) (map normalByte (a .given .now)) (a .brought .now) (omega arith) in
-    let k : length t ≡ length (a .given .now) = raised-length (a .count) (map normalByte (a .given .now)) ∙ z in
+    let e = cased-laws.pick-some (a .count) (map normalByte (a .given .now)) (a .brought .now) (omega arith) in
+    let k : length t ≡ length (a .given .now) = cased-length (a .count) (map normalByte (a .given .now)) ∙ z in
     (p .put-cased .ensures .0 ∙ ap (λ (m : ℕ). a .at + m) (sym k) ∙ ap (λ (t : Tag). a .at + length t) (sym e), p .put-cased .ensures .1 ∙ ap (sets (a .out .now) (a .at)) (sym e))
 
 pub put-first-spec : {M : Type 1} → statement M

@@ -11,7 +11,7 @@ use Rattle.standard.specs.Table.{lookup, rows}
 use Rattle.subtag.specs.Bytes.{normalByte, cased as raisedTag}
 use Rattle.subtag.specs.Sections.{led}
 use Rattle.aliases.specs.Replaced.{replacedBy, aliasedPart}
-use Rattle.aliases.proofs.Raised as raised
+use Rattle.aliases.proofs.Cased as cased-laws
 use Rattle.aliases.proofs.Keyed as keys
 use borrow.Author.Needs.{needs}
 use Rattle.aliases.proofs.replace.write_aliased.Statement.{statement}
@@ -41,7 +41,7 @@ key c =
     let b = c .before .before .before .before .before .before .before .before .before .before .before .before in
     let a = b .args in
     let m = length-map (a .given .now) normalByte in
-    let z : length (tag c) ≤ 8 = raised.pick-small 8 (a .count) (map normalByte (a .given .now)) (a .brought .now) (omega arith) (omega arith) in
+    let z : length (tag c) ≤ 8 = cased-laws.pick-small 8 (a .count) (map normalByte (a .given .now)) (a .brought .now) (omega arith) (omega arith) in
     let p = c .before .before .before .before in
     keys.keyed _ _ _ _ _ _ _ (p .put .ensures .0) (p .put .ensures .1) (c .before .put-first .ensures .0) (c .before .put-first .ensures .1) (omega arith)
 

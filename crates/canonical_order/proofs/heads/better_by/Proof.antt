@@ -1,6 +1,6 @@
 -- `canonical_order::heads::better_by` meets its contract. Assumes nothing.
 use borrow.Author.Tests.{lt-ltb, le-ltb}
-use Rattle.canonical_order.specs.Judged.{betterBy}
+use Rattle.canonical_order.specs.Keyed.{betterBy}
 use Rattle.canonical_order.proofs.heads.better_by.Statement.{statement}
 use Rattle.canonical_order.proofs.heads.better_by.Tie as tie
 

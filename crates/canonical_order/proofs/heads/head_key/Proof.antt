@@ -1,6 +1,6 @@
 -- `canonical_order::heads::head_key` meets its contract. Assumes nothing.
 use borrow.Author.Tests.{le-leb, lt-leb}
-use Rattle.canonical_order.specs.Judged.{headKey}
+use Rattle.canonical_order.specs.Keyed.{headKey}
 use Rattle.canonical_order.proofs.heads.head_key.Statement.{statement}
 use Rattle.canonical_order.proofs.heads.head_key.Tie as tie
 

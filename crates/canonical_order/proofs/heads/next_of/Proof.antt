@@ -5,8 +5,8 @@ use native.Mathlib.Omega.{arith}
 use lib.ListN.{length, drop}
 use borrow.Author.Needs.{needs}
 use Rattle.canonical_order.specs.Section.{noHead}
-use Rattle.canonical_order.specs.Judged.{pickBy}
-use Rattle.canonical_order.proofs.Judged.{pick-more, pick-over}
+use Rattle.canonical_order.specs.Keyed.{pickBy}
+use Rattle.canonical_order.proofs.Keyed.{pick-more, pick-over}
 use Rattle.canonical_order.proofs.heads.next_of.Statement.{statement}
 use Rattle.canonical_order.proofs.heads.next_of.Tie as tie
 

@@ -5,12 +5,12 @@ use native.Mathlib.Omega.{arith}
 use lib.ListN.{length, length-set}
 use borrow.Author.Needs.{needs}
 use Rattle.canonical_order.proofs.Picks as picks
-use Rattle.canonical_order.proofs.Judged as judged
+use Rattle.canonical_order.proofs.Keyed as keyed
 use Rattle.canonical_order.proofs.heads.scan_all.Statement.{statement}
 use Rattle.canonical_order.proofs.heads.scan_all.Tie as tie
 
 abbrev Inv-loop : tie.InvT-loop
-Inv-loop s width keys₀ places₀ n at₀ i₀ keys places at i = judged.Judging width s keys places at i
+Inv-loop s width keys₀ places₀ n at₀ i₀ keys places at i = keyed.Judging width s keys places at i
 
 abbrev μ-loop : tie.MeasureT-loop
 μ-loop s width keys₀ places₀ n at₀ i₀ keys places at i = length s - at
@@ -18,7 +18,7 @@ abbrev μ-loop : tie.MeasureT-loop
 loop-holds : tie.Need-loop-holds Inv-loop μ-loop
 loop-holds c =
     let b = c .before .before .before in
-    judged.judging-start _ _ _ _ (b .pre .0) (b .pre .1) (b .pre .3) (b .pre .4)
+    keyed.scanning-start _ _ _ _ (b .pre .0) (b .pre .1) (b .pre .3) (b .pre .4)
 
 add-start : tie.Need-add-start Inv-loop μ-loop
 add-start c = omega (arith, c .before .loop .inv .fits)
@@ -73,7 +73,7 @@ loop-less c = omega (arith, (stepped (c .before)) .on .fits)
 loop-again : tie.Need-loop-again Inv-loop μ-loop
 loop-again c =
     let w = c .before in
-    judged.judging-next _ _ _ _ _ _ (w .before .before .before .loop .inv) _ _ (stepped w) (w .before .before .before .before .before .before .before .pre .2) (c .head-key .ensures)
+    keyed.scanning-next _ _ _ _ _ _ (w .before .before .before .loop .inv) _ _ (stepped w) (w .before .before .before .before .before .before .before .pre .2) (c .head-key .ensures)
 
 mul-places-2 : tie.Need-mul-places-2 Inv-loop μ-loop
 mul-places-2 c = omega (arith, c .before .loop .inv .few, c .before .loop .inv .fits, c .before .loop .inv .space)
@@ -93,7 +93,7 @@ returns : tie.Need-returns Inv-loop μ-loop
 returns c =
     let b = c .before .before .before .before .before in
     let j = c .before .loop .inv in
-    (omega (arith, j .few, j .fits), judged.judged-keys _ _ _ _ _ _ j (c .loop-test .left), judged.judged-places _ _ _ _ _ _ j (c .loop-test .left) (b .pre .2), j .room, length-set (c .before .loop .places) (c .before .loop .i) (c .before .loop .at) ∙ j .space)
+    (omega (arith, j .few, j .fits), keyed.scanned-keys _ _ _ _ _ _ j (c .loop-test .left), keyed.scanned-places _ _ _ _ _ _ j (c .loop-test .left) (b .pre .2), j .room, length-set (c .before .loop .places) (c .before .loop .i) (c .before .loop .at) ∙ j .space)
 
 pub scan-all-spec : {M : Type 1} → statement M
 scan-all-spec =

@@ -32,7 +32,7 @@ scan-requires c κs = search needs
 without-requires : tie.Need-without-requires
 without-requires c κs =
     let a = c .before .before .before .before .before .args in
-    let z = walk.judged-fits (a .s .now) _ _ (c .scan .ensures) in
+    let z = walk.scanned-fits (a .s .now) _ _ (c .scan .ensures) in
     omega arith
 
 returns-3 : tie.Need-returns-3

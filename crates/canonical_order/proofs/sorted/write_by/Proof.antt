@@ -6,7 +6,7 @@ use Prim.Native.Nat.{_-_, _<_}
 use lib.ListN.{length}
 use Rattle.subtag.specs.Sections.{tagsOf}
 use Rattle.canonical_order.specs.Section.{noHead, pickFrom}
-use Rattle.canonical_order.proofs.Judged as judged
+use Rattle.canonical_order.proofs.Keyed as keyed
 use Rattle.canonical_order.proofs.Trim as trim
 use Rattle.canonical_order.proofs.Writes as writes
 use Rattle.canonical_order.proofs.sorted.write_by.Statement.{statement}
@@ -26,7 +26,7 @@ loop-holds c =
 next-of-requires : tie.Need-next-of-requires Inv-loop μ-loop
 next-of-requires c κs =
     let b = c .before .before .before .before .before in
-    judged.one-more (b .args .width) (tagsOf (b .args .s .now)) _ _ (b .pre .4) (b .pre .5)
+    keyed.one-more (b .args .width) (tagsOf (b .args .s .now)) _ _ (b .pre .4) (b .pre .5)
 
 -- the choice is that of the section
 picked : (c : tie.After-next-of Inv-loop μ-loop)
@@ -34,7 +34,7 @@ picked : (c : tie.After-next-of Inv-loop μ-loop)
     (noHead (length (c .before .before .before .before .before .before .args .s .now))) (tagsOf (c .before .before .before .before .before .before .args .s .now))
 picked c =
     let b = c .before .before .before .before .before .before in
-    judged.picked (b .args .width) _ _ (tagsOf (b .args .s .now)) _ _ _ (b .pre .4) (b .pre .5) (c .next-of .ensures)
+    keyed.picked (b .args .width) _ _ (tagsOf (b .args .s .now)) _ _ _ (b .pre .4) (b .pre .5) (c .next-of .ensures)
 
 same-length : tie.Need-same-length Inv-loop μ-loop
 same-length c = c .before .before .loop .inv .same-size

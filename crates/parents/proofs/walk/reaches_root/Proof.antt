@@ -3,7 +3,7 @@
 use borrow.Author.Needs.{needs}
 use native.Mathlib.Omega.{arith}
 use mathlib.Core.Path.{_≡_, refl, sym, _∙_}
-use Prim.Native.Nat.{_-_, _≤_}
+use Prim.Native.Nat.{_≤_}
 use lib.ListN.{length}
 use Rattle.parents.specs.Walk.{cut, ValueOk, reachesFrom}
 use Rattle.parents.proofs.Walks.{reach-root, reach-stop, reach-und, reach-next}

@@ -1,6 +1,6 @@
 -- `row_shapes::aliases::alias_shape` meets its contract, kind by kind. Assumes nothing.
 use mathlib.Core.Path.{sym, _∙_}
-use Rattle.row_shapes.proofs.Judges as judges
+use Rattle.row_shapes.proofs.Tests as judges
 use borrow.Author.Needs.{needs}
 use Rattle.row_shapes.proofs.aliases.alias_shape.Statement.{statement}
 use Rattle.row_shapes.proofs.aliases.alias_shape.Tie as tie

@@ -1,5 +1,5 @@
 -- `row_shapes::aliases::equals` meets its contract. Assumes nothing.
-use Rattle.row_shapes.proofs.Judges.{lengths-differ}
+use Rattle.row_shapes.proofs.Tests.{lengths-differ}
 use borrow.Author.Needs.{needs}
 use Rattle.row_shapes.proofs.aliases.equals.Statement.{statement}
 use Rattle.row_shapes.proofs.aliases.equals.Tie as tie

@@ -1,7 +1,7 @@
 -- `row_shapes::aliases::kind_named` meets its contract. Assumes nothing.
 use mathlib.Core.Path.{sym, _∙_}
 use mathlib.Core.Bool.{true, false}
-use Rattle.row_shapes.proofs.Judges.{named-language, named-script, named-region, named-variant}
+use Rattle.row_shapes.proofs.Tests.{named-language, named-script, named-region, named-variant}
 use borrow.Author.Needs.{needs}
 use Rattle.row_shapes.proofs.aliases.kind_named.Statement.{statement}
 use Rattle.row_shapes.proofs.aliases.kind_named.Tie as tie

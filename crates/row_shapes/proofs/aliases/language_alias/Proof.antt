@@ -3,7 +3,7 @@ use native.Mathlib.Omega.{arith}
 use borrow.Author.Tests.{not-true, not-false}
 use mathlib.Core.Path.{sym, _∙_}
 use lib.Seq.{length-take-le}
-use Rattle.row_shapes.proofs.Judges.{alias-key, alias-und, alias-no-three, alias-three}
+use Rattle.row_shapes.proofs.Tests.{alias-key, alias-und, alias-no-three, alias-three}
 use borrow.Author.Needs.{needs}
 use Rattle.row_shapes.proofs.aliases.language_alias.Statement.{statement}
 use Rattle.row_shapes.proofs.aliases.language_alias.Tie as tie

@@ -1,7 +1,7 @@
 -- `row_shapes::lsr::front_of` meets its contract. Assumes nothing.
 use borrow.Author.Needs.{needs}
 use native.Mathlib.Omega.{arith}
-use Prim.Native.Nat.{_+_, _-_, _≤_}
+use Prim.Native.Nat.{_+_, _≤_}
 use lib.ListN.{length}
 use Rattle.row_shapes.proofs.Fronts.{language-room, script-room, region-room, front-at}
 use Rattle.row_shapes.proofs.lsr.front_of.Statement.{statement}

@@ -3,7 +3,7 @@ use borrow.Author.Needs.{needs}
 use native.Mathlib.Omega.{arith}
 use mathlib.Core.Path.{_≡_, sym, ap, _∙_}
 use mathlib.Core.Bool.{not, true}
-use Prim.Native.Nat.{ℕ, _+_, _-_}
+use Prim.Native.Nat.{ℕ, _+_}
 use mathlib.Core.List.{List}
 use lib.ListN.{drop, length-take, length-drop}
 use lib.Seq.{length-take-le}
@@ -11,7 +11,7 @@ use Rattle.standard.specs.Tag.{same, present}
 use Rattle.standard.specs.Identifier.{zz}
 use Rattle.row_shapes.specs.Shapes.{between}
 use Rattle.byte_string.proofs.Stores.{all-from}
-use Rattle.row_shapes.proofs.Judges.{present-some, present-none, no-script, no-region, is-und, is-zzzz, is-zz}
+use Rattle.row_shapes.proofs.Tests.{present-some, present-none, no-script, no-region, is-und, is-zzzz, is-zz}
 use Rattle.row_shapes.proofs.pairs.known_parts.Statement.{statement}
 use Rattle.row_shapes.proofs.pairs.known_parts.Tie as tie
 

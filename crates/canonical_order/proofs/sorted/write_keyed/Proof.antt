@@ -1,11 +1,11 @@
--- `canonical_order::sorted::write_judged` meets its contract. Assumes nothing.
+-- `canonical_order::sorted::write_keyed` meets its contract. Assumes nothing.
 use mathlib.Core.Path.{sym}
 use Prim.Native.Nat.{_+_}
 use native.Mathlib.Omega.{arith}
 use lib.Seq.{length-take-le}
 use borrow.Author.Needs.{needs}
-use Rattle.canonical_order.proofs.sorted.write_judged.Statement.{statement}
-use Rattle.canonical_order.proofs.sorted.write_judged.Tie as tie
+use Rattle.canonical_order.proofs.sorted.write_keyed.Statement.{statement}
+use Rattle.canonical_order.proofs.sorted.write_keyed.Tie as tie
 
 no-keys-requires : tie.Need-no-keys-requires
 no-keys-requires c κs = search needs
@@ -46,8 +46,8 @@ same-length c = search needs
 returns : tie.Need-returns
 returns c = search needs
 
-pub write-judged-spec : {M : Type 1} → statement M
-write-judged-spec =
+pub write-keyed-spec : {M : Type 1} → statement M
+write-keyed-spec =
     tie.close
     (tie.spec
     no-keys-requires

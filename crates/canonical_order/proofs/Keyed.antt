@@ -16,7 +16,7 @@ use Rattle.subtag.specs.Subtags.{subtagOf, PlainTag}
 use Rattle.canonical_order.specs.declared.choice.Head.{Head}
 use Rattle.subtag.specs.Sections.{tagsOf, Led, Plain}
 use Rattle.canonical_order.specs.Section.{betterOf, noHead, pickFrom}
-use Rattle.canonical_order.specs.Judged.{headKey, headKeys, placesFrom, betterBy, pickBy}
+use Rattle.canonical_order.specs.Keyed.{headKey, headKeys, placesFrom, betterBy, pickBy}
 use Rattle.canonical_order.proofs.Walk.{tags-end}
 use Rattle.canonical_order.proofs.Picks.{Stepped}
 
@@ -31,8 +31,8 @@ pub record Judging (width : ℕ) (s keys places : List ℕ) (at i : ℕ) : Type 
   pub keys-are : take i keys ++ headKeys width (tagsOf (drop at s)) ≡ headKeys width (tagsOf s)
   pub places-are : take i places ++ placesFrom at (tagsOf (drop at s)) ≡ placesFrom 0 (tagsOf s)
 
-pub judging-start : (width : ℕ) (s keys places : List ℕ) → Led s → Plain (tagsOf s) → length keys ≡ 128 → length places ≡ 129 → Judging width s keys places 0 0
-judging-start width s keys places l h m n = record {
+pub scanning-start : (width : ℕ) (s keys places : List ℕ) → Led s → Plain (tagsOf s) → length keys ≡ 128 → length places ≡ 129 → Judging width s keys places 0 0
+scanning-start width s keys places l h m n = record {
   fits = omega arith;
   begins = l;
   plain = h;
@@ -52,9 +52,9 @@ module _ (width : ℕ) (s keys places : List ℕ) (at i : ℕ) (j : Judging widt
   unfolding Plain PlainTag
   plain-here t ts e = let p = rw e at (j .plain) in (p .0 .0, p .1)
 
-  pub judging-next : (r : Subtag) (k : ℕ) → Stepped s at r → length s ≤ 256 → k ≡ headKey width r → Judging width s (set keys i k) (set places i at) (at + 1 + r .len) (i + 1)
+  pub scanning-next : (r : Subtag) (k : ℕ) → Stepped s at r → length s ≤ 256 → k ≡ headKey width r → Judging width s (set keys i k) (set places i at) (at + 1 + r .len) (i + 1)
   unfolding headKeys placesFrom
-  judging-next r k w z e =
+  scanning-next r k w z e =
       let t = headTag (split (drop (at + 1) s)) in
       let p = plain-here t _ (w .on .tags) in
       let n = w .size in
@@ -77,13 +77,13 @@ module _ (width : ℕ) (s keys places : List ℕ) (at i : ℕ) (j : Judging widt
             ∙ j .places-are;
       }
 
-  pub judged-keys : length s ≤ at → take i keys ≡ headKeys width (tagsOf s)
+  pub scanned-keys : length s ≤ at → take i keys ≡ headKeys width (tagsOf s)
   unfolding headKeys
-  judged-keys h = sym (append-nil (take i keys)) ∙ ap (λ (ts : List Tag). take i keys ++ headKeys width ts) (sym (tags-end s at h)) ∙ j .keys-are
+  scanned-keys h = sym (append-nil (take i keys)) ∙ ap (λ (ts : List Tag). take i keys ++ headKeys width ts) (sym (tags-end s at h)) ∙ j .keys-are
 
-  pub judged-places : length s ≤ at → length s ≤ 256 → take (i + 1) (set places i at) ≡ placesFrom 0 (tagsOf s)
+  pub scanned-places : length s ≤ at → length s ≤ 256 → take (i + 1) (set places i at) ≡ placesFrom 0 (tagsOf s)
   unfolding placesFrom
-  judged-places h z =
+  scanned-places h z =
       let g = j .few in
       let f = j .fits in
       let v = j .space in
@@ -116,17 +116,17 @@ better-same width last at t best = go (leb (t .len) width) refl
     go true e = refl
     go false e = sym (simp (le-ltb last 0 (omega arith)))
 
-pick-judged : (width last at : ℕ) (best : Head) (ts : List Tag) → pickFrom width last at best ts ≡ pickBy last best (headKeys width ts) (placesFrom at ts)
+pick-keyed : (width last at : ℕ) (best : Head) (ts : List Tag) → pickFrom width last at best ts ≡ pickBy last best (headKeys width ts) (placesFrom at ts)
 unfolding pickFrom pickBy headKeys placesFrom subtagOf
-pick-judged width last at best [] = refl
-pick-judged width last at best (t ∷ []) = better-same width last at (subtagOf t) best
-pick-judged width last at best (t ∷ u ∷ ts) =
+pick-keyed width last at best [] = refl
+pick-keyed width last at best (t ∷ []) = better-same width last at (subtagOf t) best
+pick-keyed width last at best (t ∷ u ∷ ts) =
     ap (λ (b : Head). pickFrom width last (at + 1 + length t) b (u ∷ ts)) (better-same width last at (subtagOf t) best)
-    ∙ pick-judged width last (at + 1 + length t) (betterBy last at (at + 1 + length t) (headKey width (subtagOf t)) best) (u ∷ ts)
+    ∙ pick-keyed width last (at + 1 + length t) (betterBy last at (at + 1 + length t) (headKey width (subtagOf t)) best) (u ∷ ts)
 
 pub picked : (width last n : ℕ) (ts : List Tag) (keys places : List ℕ) (r : Head) → keys ≡ headKeys width ts → places ≡ placesFrom 0 ts → r ≡ pickBy last (noHead n) keys places
     → r ≡ pickFrom width last 0 (noHead n) ts
-picked width last n ts keys places r a b e = e ∙ ap₂ (pickBy last (noHead n)) a b ∙ sym (pick-judged width last 0 (noHead n) ts)
+picked width last n ts keys places r a b e = e ∙ ap₂ (pickBy last (noHead n)) a b ∙ sym (pick-keyed width last 0 (noHead n) ts)
 
 length-keys : (width : ℕ) (ts : List Tag) → length (headKeys width ts) ≡ length ts
 unfolding headKeys

@@ -101,9 +101,9 @@ pub record Judging (s : List ℕ) (letters digits key weight len : ℕ) : Type 0
   pub room : key + 256 * weight ≤ 18446744073709551616
   pub small : key < 18446744073709551616
 
-pub judging-start : (s : List ℕ) → Judging s 0 0 0 72057594037927936 0
+pub scanning-start : (s : List ℕ) → Judging s 0 0 0 72057594037927936 0
 unfolding weightOf
-judging-start s = record { within = omega arith; few = omega arith; fewer = omega arith; size = omega arith; lets = omega arith; digs = omega arith; number = omega arith; weighs = refl; room = omega arith; small = omega arith }
+scanning-start s = record { within = omega arith; few = omega arith; fewer = omega arith; size = omega arith; lets = omega arith; digs = omega arith; number = omega arith; weighs = refl; room = omega arith; small = omega arith }
 
 pub letter-le : (k : Class) → letterOf k ≤ 1
 letter-le Small = omega arith
