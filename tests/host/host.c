@@ -1,6 +1,7 @@
 /* A host program: document 01's examples through the four exported functions. Each call is made twice: every lent buffer
  * is a block of its own, first with guard bytes around it, then of just its length, so that valgrind sees a byte read
- * outside it. A refusal must write nothing, a result only its own bytes, and nothing else may change.
+ * outside it. A refusal must write nothing, a result only its own bytes, and nothing else may change. Then what the header
+ * promises beside: the room for a chain, null pointers with length 0, the meaning of each number, the version.
  * Prints 'N passed, M failed'. */
 #include "altazhbey.h"
 #include <stdio.h>
@@ -173,9 +174,70 @@ static void bad_tables(void) {
     expect(CHAIN, text("en-AU"), t, OUT, 0, 0, 0, "en-AU\nen\nund\n", 2);
 }
 
+static void expect_true(const char *what, int good) {
+    if (good) passed++;
+    else {
+        failed++;
+        printf("not so: %s\n", what);
+    }
+}
+
+/* The longest chain: 49 variants of 4 bytes behind en-Latn-US, the longest three that 255 bytes leave room for; then the
+ * three are dropped to en, and from there 8 rows of the longest values lead to und. */
+static void longest_chain(void) {
+    static char id[256], rows[512], out[ALTAZHBEY_CHAIN_ROOM];
+    size_t n = (size_t)sprintf(id, "en-Latn-US"), m = 0;
+    for (int k = 0; k < 49; k++) n += (size_t)sprintf(id + n, "-1a%02d", k);
+    for (int k = 1; k < 7; k++) m += (size_t)sprintf(rows + m, "aaaaaaaa-Latn-00%d\taaaaaaaa-Latn-00%d\n", k, k + 1);
+    m += (size_t)sprintf(rows + m, "aaaaaaaa-Latn-007\tund\nen\taaaaaaaa-Latn-001\n");
+    uint64_t r = altazhbey_chain((const uint8_t *)id, n, NULL, 0, (const uint8_t *)rows, m, (uint8_t *)out, sizeof out);
+    expect_true("an identifier of 255 bytes", n == 255);
+    expect_true("the longest chain has 6,816 bytes and 59 steps", altazhbey_number(r) == 0 && altazhbey_length(r) == 6816 && altazhbey_steps(r) == 59);
+    expect_true("it ends in und", !memcmp(out + 6816 - 5, "\nund\n", 5));
+    r = altazhbey_chain((const uint8_t *)id, n, NULL, 0, (const uint8_t *)rows, m, (uint8_t *)out, 6815);
+    expect_true("a byte less is too short", r == ALTAZHBEY_SHORT_OUT);
+}
+
+/* Each choice of parameters null with length 0, the others as they are: the answer is that of an empty buffer of its own. */
+static void null_pointers(void) {
+    for (int o = CANONICALISE; o <= CHAIN; o++)
+        for (int nulls = 0; nulls < 32; nulls++) {
+            lent given[5] = {lend("en-AU", nulls & 1 ? 0 : 5, 0), lend(ALIASES, nulls & 2 ? 0 : sizeof ALIASES - 1, 0),
+                             lend(LIKELY, nulls & 4 ? 0 : sizeof LIKELY - 1, 0), lend(PARENTS, nulls & 8 ? 0 : sizeof PARENTS - 1, 0),
+                             lend(NULL, nulls & 16 ? 0 : OUT, 0)};
+            lent null[5];
+            uint64_t r = call((operation)o, given, given + 1, given + 2, given + 3, given + 4);
+            for (int k = 0; k < 5; k++) null[k] = nulls >> k & 1 ? (lent){NULL, NULL, 0, 0} : given[k];
+            expect_true("null with length 0 is an empty buffer", call((operation)o, null, null + 1, null + 2, null + 3, null + 4) == r);
+            for (int k = 0; k < 5; k++) give_back(given + k);
+        }
+}
+
+static void meanings(void) {
+    static const char *const WORDS[] = {
+        "done", "no bytes", "over 255 bytes", "a byte that is no letter, digit, - or _", "a subtag of 0 or over 8 bytes",
+        "a subtag that can't stand there", "a repeated singleton, variant or t key", "a singleton or t key with nothing behind it",
+        "no row of the likely table fits it", "its canonical or maximised form is over 255 bytes", "the output is too short",
+        "a table over 32,768 bytes", "a row of wrong shape", "a row not above the one before", "a row that clashes with another",
+        "no such number", "no such number", "over 512 keys", "over 1,000,000 lines", "no such number"};
+    for (unsigned n = 0; n < sizeof WORDS / sizeof *WORDS; n++) expect_true(WORDS[n], !strcmp(altazhbey_meaning(n), WORDS[n]));
+    for (unsigned n = 20; n < 256; n++) expect_true("no such number", !strcmp(altazhbey_meaning(n), "no such number"));
+    expect_true("no such number", !strcmp(altazhbey_meaning(~0u), "no such number"));
+}
+
+static void version(void) {
+    char text[32];
+    sprintf(text, "%d.%d.%d", ALTAZHBEY_VERSION_MAJOR, ALTAZHBEY_VERSION_MINOR, ALTAZHBEY_VERSION_PATCH);
+    expect_true("the version's text is its numbers", !strcmp(text, ALTAZHBEY_VERSION));
+}
+
 int main(void) {
     examples();
     bad_tables();
+    longest_chain();
+    null_pointers();
+    meanings();
+    version();
     printf("%d passed, %d failed\n", passed, failed);
     return failed != 0;
 }

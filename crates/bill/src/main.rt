@@ -1,16 +1,29 @@
 // Opens aliases.tsv and likely.tsv in the current folder, reads usage lines from standard input (a member, a tab and an
-// identifier), and prints the bill. Bytes after the last 0A are a line unless there are none.
+// identifier), and prints the bill. Bytes after the last 0A are a line unless there are none. A bill whose input could not
+// be read to its end is not printed; a refused one reads no further. A failure is said on standard error, and so is an input
+// that is not written plainly.
 use bill_lines::Counts;
-use libc::STDOUT_FILENO;
+use bill_lines::add_hinted;
+use canonical::buffer::buffer;
+use program_io::Status;
+use program_io::finish;
 use program_io::input;
 use program_io::input::Input;
-use program_io::load;
+use program_io::load_table;
+use program_io::output;
+use program_io::status_of;
+use program_io::warning::say_encoding;
+use table::hints::fill_hints;
+use table::hints::many;
 ghost use mathlib.Core.Path.{_≡_};
-ghost use mathlib.Core.List.{List};
+ghost use mathlib.Core.List.{List, []};
 ghost use Prim.Native.Nat.{_≤_};
 ghost use lib.ListN.{length};
+ghost use Rattle.io.specs.Counts.{Counts as Within};
 ghost use Rattle.standard.specs.Delivery.{Bytes};
-ghost use Rattle.bill_ledger.specs.Up.{Sized};
+ghost use Rattle.table.specs.Hints.{Hinted};
+ghost use Rattle.operations.specs.Both.{TestedBoth};
+ghost use Rattle.bill_lines.specs.Held.{Held};
 ghost use Rattle.program_io.specs.Handed.{Room};
 ghost use Rattle.bill.specs.Billed.{Bills, Makes};
 
@@ -20,76 +33,179 @@ struct Billed {
     input: Input,
 }
 
-// The length of the bill's text, and the input as it was read.
+// The length of the bill's text, the number of its refusal or 0, and the input as it was read.
 struct Made {
     len: usize,
+    number: u8,
     input: Input,
 }
 
-// Takes the input to its end into the bill.
+// Says once how an input is written whose first lines these are.
+fn mention(told: bool, lines: &[u8]) -> bool {
+    if told {
+        return true;
+    }
+    if lines.len() == 0 {
+        return false;
+    }
+    say_encoding(b"bill", lines);
+    true
+}
+
+// Takes the input into the bill, to its end, or until reading fails or the bill is refused.
 fn take_input(
+    from: Counts,
     aliases: &[u8],
+    alias_hints: &[u16],
     likely: &[u8],
+    likely_hints: &[u16],
     block: &mut [u8],
     piece: &mut [u8],
     keys: &mut [u8],
     counts: &mut [u64],
+    out: &mut [u8],
 ) -> Billed
-    requires { ⌜ Room (length (now block)) (length (now piece)) × Sized (now keys) (now counts) ⌝ }
+    requires { let aliases = now aliases in let likely = now likely in
+        ⌜ TestedBoth aliases likely × Hinted aliases (now «alias_hints») × Hinted likely (now «likely_hints») × (255 ≤ length (now out))
+        × Room (length (now block)) (length (now piece)) × (from .number ≡ 0) × Held aliases likely [] from (now keys) (now counts) ⌝ }
     ensures { λ r. ⌜ ((bs : List Bytes) × Bills (now (aliases .entry)) (now (likely .entry)) bs r (now (keys .exit)) (now (counts .exit))) ⌝ }
 {
     let mut input = input::begin();
-    let mut c = bill_lines::start(aliases, likely);
+    let mut c = from;
+    let mut told = false;
     loop {
         input = input::next(input, block, piece);
+        if input::has_failed(input) {
+            return Billed { counts: c, input };
+        }
         let whole = input::whole(input);
-        c = bill_lines::add(c, &piece[..whole], aliases, likely, keys, counts);
+        told = mention(told, &piece[..whole]);
+        c = add_hinted(
+            c,
+            &piece[..whole],
+            aliases,
+            alias_hints,
+            likely,
+            likely_hints,
+            keys,
+            counts,
+            out,
+        );
+        if c.number != 0 {
+            return Billed { counts: c, input };
+        }
         if input::is_ended(input) {
             return Billed { counts: c, input };
         }
     }
 }
 
-// The arrays of a bill.
+// Room for the keys of a bill.
 fn key_room() -> [u8; 16384]
     ensures { λ r. ⌜ length r ≡ 16384 ⌝ }
 {
     [0; 16384]
 }
 
+// Room for their members' marks and deliveries.
 fn count_room() -> [u64; 1024]
     ensures { λ r. ⌜ length r ≡ 1024 ⌝ }
 {
     [0; 1024]
 }
 
-// Makes the text of the bill at the front of the block: the text for the lines that were read.
+// Takes the input into the bill over tables that passed their check: their hints and the rooms are made once.
+fn take_tested(
+    from: Counts,
+    aliases: &[u8],
+    likely: &[u8],
+    block: &mut [u8],
+    keys: &mut [u8],
+    counts: &mut [u64],
+) -> Billed
+    requires { ⌜ TestedBoth (now aliases) (now likely) × (65536 ≤ length (now block)) × (length (now block) ≤ 262144) × (from .number ≡ 0)
+        × Held (now aliases) (now likely) [] from (now keys) (now counts) ⌝ }
+    ensures { λ r. ⌜ ((bs : List Bytes) × Bills (now (aliases .entry)) (now (likely .entry)) bs r (now (keys .exit)) (now (counts .exit))) ⌝ }
+{
+    let mut a = many();
+    fill_hints(aliases, &mut a);
+    let mut l = many();
+    fill_hints(likely, &mut l);
+    let mut piece = input::piece_buffer();
+    let mut out = buffer();
+    take_input(
+        from,
+        aliases,
+        &a,
+        likely,
+        &l,
+        block,
+        &mut piece,
+        keys,
+        counts,
+        &mut out,
+    )
+}
+
+// Makes the text of the bill at the front of the block; none where reading failed.
 fn make_text(aliases: &[u8], likely: &[u8], block: &mut [u8]) -> Made
     requires { ⌜ (65536 ≤ length (now block)) × (length (now block) ≤ 262144) ⌝ }
     ensures { λ r. let block′ = now (block .exit) in let aliases = now (aliases .entry) in let likely = now (likely .entry) in
-        ⌜ (r .len ≤ length block′) × ((bs : List Bytes) × Makes aliases likely bs r block′) ⌝ }
+        ⌜ Within (r .len) block′ × ((bs : List Bytes) × Makes aliases likely bs r block′) ⌝ }
 {
-    let mut piece = input::piece_buffer();
     let mut keys = key_room();
     let mut counts = count_room();
-    let b = take_input(aliases, likely, block, &mut piece, &mut keys, &mut counts);
-    let c = b.counts;
+    let c = bill_lines::start(aliases, likely);
+    if c.number != 0 {
+        let len = bill_lines::text::write(c, &keys, &counts, block);
+        return Made {
+            len,
+            number: c.number,
+            input: input::begin(),
+        };
+    }
+    let b = take_tested(c, aliases, likely, block, &mut keys, &mut counts);
+    let d = b.counts;
     let input = b.input;
-    let len = bill_lines::text::write(c, &keys, &counts, block);
-    Made { len, input }
+    if input::has_failed(input) {
+        return Made {
+            len: 0,
+            number: 0,
+            input,
+        };
+    }
+    let len = bill_lines::text::write(d, &keys, &counts, block);
+    Made {
+        len,
+        number: d.number,
+        input,
+    }
 }
 
-fn run(aliases: &[u8], likely: &[u8]) {
+// Makes the bill and prints it.
+fn run(aliases: &[u8], likely: &[u8]) -> Status {
     let mut block = input::block_buffer();
     let m = make_text(aliases, likely, &mut block);
     let len = m.len;
-    io::write_all(STDOUT_FILENO, &block[..len]);
+    let o = output::print(output::begin(), &block[..len]);
+    if m.number != 0 {
+        return program_io::refused(b"bill", o);
+    }
+    status_of(b"bill", m.input, o)
 }
 
 fn main() {
     let mut a = program_io::buffer();
     let mut l = program_io::buffer();
-    let a_len = load(b"aliases.tsv", &mut a);
-    let l_len = load(b"likely.tsv", &mut l);
-    run(&a[..a_len], &l[..l_len]);
+    let x = load_table(b"bill", b"aliases.tsv", &mut a);
+    if !x.read {
+        return finish(Status::Failed);
+    }
+    let y = load_table(b"bill", b"likely.tsv", &mut l);
+    if !y.read {
+        return finish(Status::Failed);
+    }
+    let a_len = x.len;
+    let l_len = y.len;
+    finish(run(&a[..a_len], &l[..l_len]))
 }

@@ -2,7 +2,7 @@
 -- bytes, is the bill of the lines of the input. Assumes nothing.
 use mathlib.Core.Path.{_≡_, refl, sym, ap, ap₂, _∙_, subst}
 use mathlib.Core.Logic.{inl, inr, ⊎-elim}
-use mathlib.Core.List.{List, [], _∷_, _++_, map, reverseAux}
+use mathlib.Core.List.{List, [], _∷_, _++_, map, reverseAux, append-assoc}
 use mathlib.Core.Option.{Option}
 use Prim.Native.Nat.{ℕ, zero, suc}
 use lib.ListN.{length, take}
@@ -10,9 +10,9 @@ use Rattle.standard.specs.Identifier.{Tables}
 use Rattle.standard.specs.Delivery.{Bytes}
 use Rattle.standard.specs.Table.{tablesOf}
 use Rattle.table.specs.Lines.{lines}
-use Rattle.lines.specs.Squeeze.{handedOver, handed, allLines, together}
+use Rattle.lines.specs.Squeeze.{handedOver, unfinished, handed, allLines, together}
 use Rattle.lines.proofs.Laws.{all-lines}
-use Rattle.lines.proofs.Blocks.{all-more}
+use Rattle.lines.proofs.Blocks.{all-more, handed-rest}
 use Rattle.bill_rules.specs.Bill.{Usage, usage, usages, accepted, refusals, refusing, more, billOf, mostLines}
 use Rattle.bill_ledger.specs.Ledger.{entriesOf}
 use Rattle.bill_lines.specs.declared.Counts.{Counts}
@@ -105,3 +105,30 @@ held-piece A L xs ys x c ks cs e h = subst (λ (ls : List Bytes). Held A L ls c 
 -- All that is handed over of an input in blocks, wherever they end: the bill is that of the input's lines.
 pub held-input : (A L : Bytes) (bs : List Bytes) (c : Counts) (ks : Bytes) (cs : List ℕ) → Held A L (allLines (handed [] bs)) c ks cs → Held A L (lines (together bs)) c ks cs
 held-input A L bs c ks cs h = held-cut A L (lines (together bs)) c ks cs (subst (λ (ls : List Bytes). Held A L ls c ks cs) (all-lines bs) h)
+
+-- A bill that was refused stays so, whatever comes after the lines that were handed over.
+module _ (A L : Bytes) (bs ms : List Bytes) (c : Counts) (ks : Bytes) (cs : List ℕ) (h : Held A L (allLines (handedOver [] bs)) c ks cs) (n : c .number ≡ 0 → ⊥) where
+  abbrev rest : List Bytes
+  rest = allLines (handed (unfinished [] bs) ms)
+
+  -- the lines of the whole input, each cut to what is kept of it
+  whole-cut : allLines (handedOver [] bs) ++ rest ≡ map (take 260) (lines (together (bs ++ ms)))
+  whole-cut = sym (handed-rest bs ms) ∙ all-lines (bs ++ ms)
+
+  stopped : Stopped (tablesOf A L []) (allLines (handedOver [] bs)) c → Stopped (tablesOf A L []) (lines (together (bs ++ ms))) c
+  stopped s = record {
+    number = s .number;
+    alone = s .alone;
+    bill = λ ns. sym (bill-alike (tablesOf A L []) (append-alike (tablesOf A L []) ns (cut-alike (tablesOf A L []) (lines (together (bs ++ ms))))))
+        ∙ ap (λ (ls : List Bytes). billOf (tablesOf A L []) (ls ++ ns)) (sym whole-cut)
+        ∙ ap (billOf (tablesOf A L [])) (append-assoc (allLines (handedOver [] bs)) rest ns) ∙ s .bill (rest ++ ns);
+  }
+
+  pub held-refused : Held A L (lines (together (bs ++ ms))) c ks cs
+  unfolding Good
+  held-refused = record {
+    sized = h .sized;
+    bounded = h .bounded;
+    good = λ e. ⊎-elim (λ g. absurd (n (g .number))) (λ s. inr (stopped s)) (h .good e);
+    bad = h .bad;
+  }

@@ -64,3 +64,12 @@ module _ (A L : Bytes) (ls ms : List Bytes) (c : Counts) (ks : Bytes) (cs : List
       let w = subst TableWithin (sym g) (check-within toMaximise A L []) in
       let q = ap (λ (x : Counts). x .number) (h .bad _ (sym g)) in
       omega (arith, w .0, q, z)
+
+-- tables that gave no fault passed
+pub held-passes : (A L : Bytes) (ls : List Bytes) (c : Counts) (ks : Bytes) (cs : List ℕ) → Held A L ls c ks cs → c .number ≡ 0 → check toMaximise A L [] ≡ none
+unfolding faulted only TableWithin
+held-passes A L ls c ks cs h z = go (check toMaximise A L []) refl
+  where
+    go : (o : Option TableFault) → check toMaximise A L [] ≡ o → o ≡ none
+    go none e = refl
+    go (some f) e = absurd (let w = rw e at (check-within toMaximise A L []) in let y = ap (λ (d : Counts). d .number) (h .bad f e) in omega (arith, w .0))

@@ -2,7 +2,7 @@
 mod key;
 mod line;
 mod piece;
-mod shape;
+pub mod shape;
 pub mod text;
 
 use canonical::buffer::buffer;
@@ -13,9 +13,11 @@ use table_check::check_likely;
 ghost use mathlib.Core.Path.{_≡_};
 ghost use mathlib.Core.Bool.{true};
 ghost use mathlib.Core.List.{List, [], _++_};
-ghost use Prim.Native.Nat.{ℕ};
+ghost use Prim.Native.Nat.{ℕ, _≤_};
+ghost use lib.ListN.{length};
 ghost use Rattle.standard.specs.Delivery.{Bytes};
 ghost use Rattle.standard.specs.Table.{tablesOf};
+ghost use Rattle.table.specs.Hints.{Hinted};
 ghost use Rattle.table.specs.Lines.{lines};
 ghost use Rattle.operations.specs.Both.{TestedBoth};
 ghost use Rattle.bill_ledger.specs.Up.{Sized};
@@ -63,6 +65,39 @@ pub fn start(aliases: &[u8], likely: &[u8]) -> Counts
     ensures { λ r. ⌜ ((ks : Bytes) → (cs : List ℕ) → Sized ks cs → Held (now (aliases .entry)) (now (likely .entry)) [] r ks cs) ⌝ }
 {
     judged(check_likely(aliases, likely))
+}
+
+// Takes the lines of a piece into a bill that can go on, over tables that passed their check, each with its hints. What
+// stands in out is of no account.
+pub fn add_hinted(
+    c: Counts,
+    piece: &[u8],
+    aliases: &[u8],
+    alias_hints: &[u16],
+    likely: &[u8],
+    likely_hints: &[u16],
+    keys: &mut [u8],
+    counts: &mut [u64],
+    out: &mut [u8],
+) -> Counts
+    requires { let aliases = now aliases in let likely = now likely in
+        ⌜ TestedBoth aliases likely × Hinted aliases (now «alias_hints») × Hinted likely (now «likely_hints») × (255 ≤ length (now out))
+        × Usable c (now keys) (now counts) ⌝ }
+    ensures { λ r. let keys′ = now (keys .exit) in let counts′ = now (counts .exit) in let aliases = now (aliases .entry) in
+        let likely = now (likely .entry) in let keys = now (keys .entry) in let counts = now (counts .entry) in let piece = now (piece .entry) in
+        ⌜ ((ls : List Bytes) → Held aliases likely ls c keys counts → Held aliases likely (ls ++ lines piece) r keys′ counts′) × Sized keys′ counts′ ⌝ }
+{
+    piece::take_lines(
+        c,
+        piece,
+        aliases,
+        alias_hints,
+        likely,
+        likely_hints,
+        keys,
+        counts,
+        out,
+    )
 }
 
 // Takes the lines of a piece into a bill that is not refused, over tables that passed their check. Their hints are made

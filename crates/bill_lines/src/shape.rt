@@ -11,7 +11,8 @@ pub struct Shape {
     pub start: usize,
 }
 
-fn one_digit(d: u8) -> u8
+// The member that one digit names, or 0.
+pub fn one_digit(d: u8) -> u8
     ensures { λ r. ⌜ (r ≡ orZero (memberOf (d ∷ []))) × (r ≤ 64) ⌝ }
 {
     if d < 49 {
@@ -23,7 +24,8 @@ fn one_digit(d: u8) -> u8
     d - 48
 }
 
-fn two_digits(d: u8, e: u8) -> u8
+// The member that two digits name, or 0.
+pub fn two_digits(d: u8, e: u8) -> u8
     ensures { λ r. ⌜ (r ≡ orZero (memberOf (d ∷ e ∷ []))) × (r ≤ 64) ⌝ }
 {
     if d < 49 {

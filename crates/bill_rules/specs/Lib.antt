@@ -1,2 +1,3 @@
 pub mod Bill
 pub mod Order
+pub mod Refusals

@@ -1,67 +1,198 @@
-// Reads identifiers from standard input, one a line, and prints what reading reports of each. Bytes after the last 0A
-// are a line unless there are none. Of a line only the first 260 bytes are kept: with more than 255 it is refused.
-use libc::STDOUT_FILENO;
+// Reads identifiers from standard input, one a line, and prints what reading reports of each, and its meaning in words. Where
+// the current folder has aliases.tsv or likely.tsv, the meaning says also why an identifier that is read is no key; a bad
+// table then gives, after the header, its line and nothing else. Bytes after the last 0A are a line unless there are none. Of
+// a line only the first 260 bytes are kept: with more than 255 it is refused. What fails is said on standard error and ends
+// the run.
+use key_rows::form_buffer;
+use program_io::Status;
+use program_io::finish;
 use program_io::input;
 use program_io::input::Input;
-use std::num::wrapping_add_usize;
+use program_io::load_table;
+use program_io::output;
+use program_io::output::Output;
+use program_io::status_of;
+use table::hints::fill_hints;
+use table::hints::many;
+use table_check::Verdict;
+use table_check::check_likely;
 ghost use mathlib.Core.Path.{_≡_};
+ghost use mathlib.Core.Bool.{false};
 ghost use mathlib.Core.List.{List};
 ghost use Prim.Native.Nat.{_≤_};
 ghost use lib.ListN.{length};
+ghost use Rattle.table.specs.Hints.{Hinted};
 ghost use Rattle.table.specs.Lines.{lines};
+ghost use Rattle.lines.specs.Pieces.{rowsText};
 ghost use Rattle.lines.specs.Squeeze.{Bytes};
-ghost use Rattle.lines.specs.Pieces.{rowsCount};
-ghost use Rattle.inspect_rows.specs.Rows.{rowOf};
+ghost use Rattle.operations.specs.Both.{TestedBoth};
+ghost use Rattle.inspect_rows.specs.Rows.{lineRow};
 ghost use Rattle.program_io.specs.Handed.{Room};
-ghost use Rattle.inspect.specs.Answered.{Answers};
+ghost use Rattle.program_io.specs.Printed.{PrintsLines, Answers};
 
-// The input as it was read, and how many bytes were printed, modulo 2^64.
+// The input as it was read, and the output as it was printed.
 struct Answered {
     input: Input,
-    printed: usize,
+    output: Output,
 }
 
-// Prints the rows of the lines of a piece, as many at a time as have room in out, and gives how many bytes they are.
-fn print_rows(piece: &[u8], out: &mut [u8]) -> usize
-    requires { ⌜ 512 ≤ length (now out) ⌝ }
-    ensures { λ r. ⌜ r ≡ rowsCount rowOf (lines (now (piece .entry))) ⌝ }
+// Prints the rows of the lines of a piece, as many at a time as have room in out; none after a write that failed.
+fn print_rows(
+    from: Output,
+    piece: &[u8],
+    keyed: bool,
+    aliases: &[u8],
+    alias_hints: &[u16],
+    likely: &[u8],
+    likely_hints: &[u16],
+    form: &mut [u8],
+    out: &mut [u8],
+) -> Output
+    requires { let aliases = now aliases in let likely = now likely in
+        ⌜ TestedBoth aliases likely × Hinted aliases (now «alias_hints») × Hinted likely (now «likely_hints») × (length (now form) ≡ 256)
+        × (512 ≤ length (now out)) × (from .failed ≡ false) ⌝ }
+    ensures { λ r. ⌜ PrintsLines (rowsText (lineRow keyed (now (aliases .entry)) (now (likely .entry)))) (lines (now (piece .entry))) from r ⌝ }
 {
-    let mut from: usize = 0;
-    let mut printed: usize = 0;
-    while from < piece.len() {
-        let w = inspect_rows::rows_of(&piece[from..], out);
-        let len = w.len;
-        io::write_all(STDOUT_FILENO, &out[..len]);
-        printed = wrapping_add_usize(printed, len);
-        from += w.used;
+    let mut o = from;
+    let mut at = 0;
+    while at < piece.len() {
+        let k = inspect_rows::rows_hinted(
+            &piece[at..],
+            keyed,
+            aliases,
+            alias_hints,
+            likely,
+            likely_hints,
+            form,
+            out,
+        );
+        let len = k.len;
+        o = output::print(o, &out[..len]);
+        if output::has_failed(o) {
+            return o;
+        }
+        at += k.used;
     }
-    printed
+    o
 }
 
-// Reads to the end of the input.
-fn answer_input(block: &mut [u8], piece: &mut [u8], out: &mut [u8]) -> Answered
-    requires { ⌜ Room (length (now block)) (length (now piece)) × (512 ≤ length (now out)) ⌝ }
-    ensures { λ r. ⌜ ((bs : List Bytes) × Answers bs r) ⌝ }
+// Reads to the end of the input, or until reading or printing fails.
+fn answer_input(
+    keyed: bool,
+    aliases: &[u8],
+    alias_hints: &[u16],
+    likely: &[u8],
+    likely_hints: &[u16],
+    form: &mut [u8],
+    block: &mut [u8],
+    piece: &mut [u8],
+    out: &mut [u8],
+) -> Answered
+    requires { let aliases = now aliases in let likely = now likely in
+        ⌜ TestedBoth aliases likely × Hinted aliases (now «alias_hints») × Hinted likely (now «likely_hints») × (length (now form) ≡ 256)
+        × Room (length (now block)) (length (now piece)) × (512 ≤ length (now out)) ⌝ }
+    ensures { λ r. let aliases = now (aliases .entry) in let likely = now (likely .entry) in
+        ⌜ ((bs : List Bytes) × Answers (rowsText (lineRow keyed aliases likely)) bs (r .input) (r .output)) ⌝ }
 {
     let mut input = input::begin();
-    let mut printed: usize = 0;
+    let mut output = output::begin();
     loop {
         input = input::next(input, block, piece);
+        if input::has_failed(input) {
+            return Answered { input, output };
+        }
         let whole = input::whole(input);
-        printed = wrapping_add_usize(printed, print_rows(&piece[..whole], out));
+        output = print_rows(
+            output,
+            &piece[..whole],
+            keyed,
+            aliases,
+            alias_hints,
+            likely,
+            likely_hints,
+            form,
+            out,
+        );
+        if output::has_failed(output) {
+            return Answered { input, output };
+        }
         if input::is_ended(input) {
-            return Answered { input, printed };
+            return Answered { input, output };
         }
     }
 }
 
-fn main() {
-    io::write_all(
-        STDOUT_FILENO,
-        b"asked\tnumber\tplace\tlanguage\tscript\tregion\tvariants\textensions\n",
-    );
+// Answers the input over tables that passed their check; their hints and the rooms are made once.
+fn answer(keyed: bool, aliases: &[u8], likely: &[u8]) -> Status
+    requires { ⌜ TestedBoth (now aliases) (now likely) ⌝ }
+{
+    let mut a = many();
+    fill_hints(aliases, &mut a);
+    let mut l = many();
+    fill_hints(likely, &mut l);
+    let mut form = form_buffer();
     let mut block = input::block_buffer();
     let mut piece = input::piece_buffer();
     let mut out = io::large_buffer();
-    answer_input(&mut block, &mut piece, &mut out);
+    let r = answer_input(
+        keyed,
+        aliases,
+        &a,
+        likely,
+        &l,
+        &mut form,
+        &mut block,
+        &mut piece,
+        &mut out,
+    );
+    status_of(b"inspect", r.input, r.output)
+}
+
+// Prints the header, tests the tables, and answers the input.
+fn run(keyed: bool, aliases: &[u8], likely: &[u8]) -> Status {
+    let o = output::print(
+        output::begin(),
+        b"asked\tnumber\tplace\tlanguage\tscript\tregion\tvariants\textensions\tmeaning\n",
+    );
+    if output::has_failed(o) {
+        return status_of(b"inspect", input::begin(), o);
+    }
+    let v = check_likely(aliases, likely);
+    if let Verdict::Bad(number, place, table) = v {
+        let p = program_io::print_table(o, number, place, table);
+        return program_io::refused(b"inspect", p);
+    }
+    answer(keyed, aliases, likely)
+}
+
+// Has the current folder one of the two tables, so that it can be opened?
+fn has_tables() -> bool {
+    if program_io::can_open(b"aliases.tsv") {
+        return true;
+    }
+    program_io::can_open(b"likely.tsv")
+}
+
+// With the tables of the current folder.
+fn run_keyed() -> Status {
+    let mut a = program_io::buffer();
+    let mut l = program_io::buffer();
+    let x = load_table(b"inspect", b"aliases.tsv", &mut a);
+    if !x.read {
+        return Status::Failed;
+    }
+    let y = load_table(b"inspect", b"likely.tsv", &mut l);
+    if !y.read {
+        return Status::Failed;
+    }
+    let a_len = x.len;
+    let l_len = y.len;
+    run(true, &a[..a_len], &l[..l_len])
+}
+
+fn main() {
+    if has_tables() {
+        return finish(run_keyed());
+    }
+    finish(run(false, b"", b""))
 }

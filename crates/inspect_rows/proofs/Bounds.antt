@@ -1,6 +1,7 @@
 -- What is printed as asked has at most 255 bytes, and so a row has room; of a line only the first 260 bytes matter.
 -- Assumes nothing.
 use mathlib.Core.Path.{_≡_, refl, sym, ap}
+use mathlib.Core.Bool.{Bool}
 use mathlib.Core.List.{List, [], _++_}
 use Prim.Native.Nat.{ℕ, _≤_, _<_}
 use native.Mathlib.Omega.{arith}
@@ -10,12 +11,9 @@ use Rattle.standard.specs.Report.{Report, reportOf, report}
 use Rattle.reader.specs.Words.{reportIs, refusedReport}
 use Rattle.reader.proofs.Outcomes.{outcome-long}
 use Rattle.reader.proofs.Reports.{report-bad}
-use Rattle.table.specs.Lines.{lines}
-use Rattle.lines.specs.Squeeze.{handed, allLines, together}
-use Rattle.lines.specs.Pieces.{rowsText}
-use Rattle.lines.proofs.Pieces.{first-enough, rows-handed}
+use Rattle.lines.proofs.Pieces.{first-enough}
 use Rattle.tsv.specs.Fields.{field, askedOf}
-use Rattle.inspect_rows.specs.Rows.{fieldsText, reportText, rowOf}
+use Rattle.inspect_rows.specs.Rows.{fieldsText, meantText, reportText, rowOf, keyNumber, lineRow}
 use Rattle.tsv.proofs.Laws.{asked-two, asked-fits, field-length}
 use Rattle.reader.specs.declared.report.Report.{Report as Read·Report}
 
@@ -29,19 +27,18 @@ unfolding reportIs
 asked-length r x e = let s = rw (← e) at (asked-small x) in let f = field-length (askedOf (r .number) x) 9 in omega arith
 
 -- the text of a row, once its parts are written
-pub row-text : (r : Read·Report) (x : List ℕ) → reportIs r ≡ report x → rowOf x ≡ field (askedOf (r .number) x) 9 ++ fieldsText (reportIs r)
+pub row-text : (r : Read·Report) (key : ℕ) (x : List ℕ) → reportIs r ≡ report x → rowOf key x ≡ field (askedOf (r .number) x) 9 ++ (fieldsText (reportIs r) ++ field (meantText (r .number) key) 10)
 unfolding rowOf reportText reportIs
-row-text r x e = sym (ap (λ (q : Report). reportText q x) e)
+row-text r key x e = sym (ap (λ (q : Report). reportText q key x) e)
 
 -- Of a line only the first 260 bytes matter: with more than 255 it is refused with 2.
-row-long : (x : List ℕ) → 255 < length x → rowOf x ≡ reportText (reportOf (bad 2 0)) []
-unfolding rowOf reportText refusedReport reportOf
-row-long x h = rw (← (report-bad x 2 0 (outcome-long x h)), asked-two 2 x refl, asked-two 2 [] refl)
+row-long : (key : ℕ) (x : List ℕ) → 255 < length x → rowOf key x ≡ reportText (reportOf (bad 2 0)) 0 []
+unfolding rowOf reportText meantText refusedReport reportOf
+row-long key x h = rw (← (report-bad x 2 0 (outcome-long x h)), asked-two 2 x refl, asked-two 2 [] refl)
 
-pub row-first : (x : List ℕ) → rowOf (take 260 x) ≡ rowOf x
-row-first x = first-enough rowOf (reportText (reportOf (bad 2 0)) []) (λ y h. row-long y (omega arith)) x
+pub row-first : (key : ℕ) (x : List ℕ) → rowOf key (take 260 x) ≡ rowOf key x
+row-first key x = first-enough (rowOf key) (reportText (reportOf (bad 2 0)) 0 []) (λ y h. row-long key y (omega arith)) x
 
--- THE PROGRAM: of blocks of input, wherever they end, the rows of the lines that the line reader hands over are the rows
--- of the lines of the input.
-pub all-rows : (bs : List (List ℕ)) → rowsText rowOf (allLines (handed [] bs)) ≡ rowsText rowOf (lines (together bs))
-all-rows bs = rows-handed rowOf row-first bs
+pub line-first : (keyed : Bool) (A L x : List ℕ) → lineRow keyed A L (take 260 x) ≡ lineRow keyed A L x
+unfolding lineRow
+line-first keyed A L x = first-enough (lineRow keyed A L) (reportText (reportOf (bad 2 0)) 0 []) (λ y h. row-long (keyNumber keyed A L y) y (omega arith)) x

@@ -2,8 +2,8 @@
 use mathlib.Core.Path.{_≡_, refl, sym, ap, _∙_}
 use mathlib.Core.Bool.{true}
 use mathlib.Core.List.{List, [], _∷_, _++_}
-use mathlib.Core.Option.{Option, none, some}
-use Prim.Native.Nat.{ℕ, _+_, _-_, _%_, _^_, _≤_, _<_}
+use mathlib.Core.Option.{none}
+use Prim.Native.Nat.{ℕ, _+_, _≤_, _<_}
 use native.Mathlib.Omega.{arith}
 use lib.Dec.{leb}
 use lib.ListN.{length, take, drop}
@@ -11,10 +11,10 @@ use lib.Seq.{sets, sets-eq, take-at}
 use borrow.Author.Tests.{eq-eqb, ne-eqb, le-leb}
 use Rattle.standard.specs.Delivery.{Bytes, Made, result, refusal, Given, given}
 use Rattle.standard.specs.Calls.{minimise}
-use Rattle.standard.specs.Table.{TableFault, tablesOf, check, toMaximise}
+use Rattle.standard.specs.Table.{tablesOf, check, toMaximise}
 use Rattle.standard.specs.Make.{make, makeOf}
 use Rattle.standard.proofs.Demand.{result-of}
-use Rattle.standard.proofs.Numbers.{Proper, TableWithin, check-within}
+use Rattle.standard.proofs.Numbers.{Proper}
 use Rattle.standard.proofs.Table.{passed, good-tables, shaped-tables}
 use Rattle.standard.proofs.Whole.{narrow-likely}
 use Rattle.standard.proofs.Long.{read-long, read-short}
@@ -26,8 +26,7 @@ use Rattle.tsv.specs.Fields.{askedOf}
 use Rattle.tsv.proofs.Laws.{asked-two, asked-fits}
 use Rattle.lines.specs.Pieces.{rowsText, pieceText, pieceUsed}
 use Rattle.lines.specs.Squeeze.{handed, allLines, together}
-use Rattle.lines.proofs.Pieces.{rest-rows, used-some, first-enough, rows-handed}
-use Rattle.lines.proofs.Counts.{Printing, printing-more}
+use Rattle.lines.proofs.Pieces.{rest-rows, first-enough, rows-handed}
 use Rattle.table.specs.Lines.{lines}
 use Rattle.table_check.specs.declared.Verdict.{Verdict}
 use Rattle.table_check.specs.declared.Verdict.the-variants.{Bad}
@@ -68,6 +67,7 @@ module _ (A L x : Bytes) (pass : check toMaximise A L [] ≡ none) where
 
   -- what was made, once it is in the buffer, is the row
   pub record Told (a : Answered) (form : Bytes) : Type 0 where
+    pub number : a .number ≡ numberOf (madeKey A L x)
     pub asked : length (askedOf (a .number) x) ≤ 255
     pub few : a .len ≤ 255
     pub text : answerText (a .number) x (keptText (a .number) (take (a .len) form)) ≡ keyRow A L x
@@ -85,16 +85,20 @@ module _ (A L x : Bytes) (pass : check toMaximise A L [] ≡ none) where
       let number : a .number ≡ 0 = ap (λ (q : Given). q .number) h in
       let len : a .len ≡ length r = ap (λ (q : Given). q .len) h in
       let bytes : form ≡ r ++ drop (length r) form₀ = ap (λ (q : Given). q .output) h in
+      let same : a .number ≡ numberOf (madeKey A L x) = number ∙ sym (ap numberOf e) in
       record {
-        asked = asked-small (a .number) (number ∙ sym (ap numberOf e));
+        number = same;
+        asked = asked-small (a .number) same;
         few = omega arith;
         text = rw (number, len, bytes, take-at r (drop (length r) form₀) (length r) refl, e);
       }
   told-as a form form₀ (refusal n p t) e k g q =
       let number : a .number ≡ n = ap (λ (q : Given). q .number) g in
       let len : a .len ≡ 0 = ap (λ (q : Given). q .len) g in
+      let same : a .number ≡ numberOf (madeKey A L x) = number ∙ sym (ap numberOf e) in
       record {
-        asked = asked-small (a .number) (number ∙ sym (ap numberOf e));
+        number = same;
+        asked = asked-small (a .number) same;
         few = omega arith;
         text = rw (number, ne-eqb n 0 (λ z. omega (arith, q .0)), e);
       }
@@ -132,35 +136,11 @@ pub table-given : {n p t : ℕ} (A L x out : Bytes) (v : Verdict) → v ≡ Bad 
 unfolding keysGiven afterTables keyedIs
 table-given A L x out v g f = rw (← f, g)
 
--- a table's fault has a number
-pub fault-number : (A L : Bytes) (f : TableFault) → check toMaximise A L [] ≡ some f → f .fault .number ≡ 0 → ⊥
-unfolding TableWithin
-fault-number A L f g z = let w = rw g at (check-within toMaximise A L []) in omega (arith, w .0)
-
--- an answer over good tables, and over bad ones
+-- an answer over good tables
 module _ (A L x out₀ out : Bytes) (k : Keyed) (e : keyedIs k out ≡ keysGiven A L x out₀) where
   pub good-keyed : check toMaximise A L [] ≡ none → (k .number ≡ 0) × (k .used ≡ pieceUsed (keyRow A L) 540 (length out₀) x) × (k .len ≡ length (pieceText (keyRow A L) 540 (length out₀) x))
   unfolding keysGiven keyedIs rowsGiven afterTables
   good-keyed pass = let q = rw pass at e in (ap (λ (a : Answer). a .number) q, ap (λ (a : Answer). a .used) q, ap (λ (a : Answer). a .len) q)
-
-  pub bad-keyed : (f : TableFault) → check toMaximise A L [] ≡ some f → k .number ≡ f .fault .number
-  unfolding keysGiven keyedIs afterTables
-  bad-keyed f g = let q = rw g at e in ap (λ (a : Answer). a .number) q
-
-  -- where there is room for a row, good tables bring a piece that is not empty further
-  pub further : k .number ≡ 0 → 540 ≤ length out₀ → 0 < length x → 0 < k .used
-  further z h n = go (check toMaximise A L []) refl
-    where
-      go : (o : Option TableFault) → check toMaximise A L [] ≡ o → 0 < k .used
-      go none g = omega (arith, good-keyed g .1, used-some (keyRow A L) 540 (length out₀) x h n)
-      go (some f) g = absurd (fault-number A L f g (sym (bad-keyed f g) ∙ z))
-
--- the rows of one call more are counted
-pub keyed-printing : (A L x out₀ out : Bytes) (k : Keyed) (from len len′ : ℕ) → keyedIs k out ≡ keysGiven A L (take (length x - from) (drop from x)) out₀ → k .used ≤ length x - from → len′ ≡ (len + k .len) % 2 ^ 64
-    → check toMaximise A L [] ≡ none → Printing (keyRow A L) x from len → Printing (keyRow A L) x (from + k .used) len′
-keyed-printing A L x out₀ out k from len len′ e w n pass p =
-    let g = good-keyed A L (take (length x - from) (drop from x)) out₀ out k e pass in
-    printing-more (keyRow A L) 540 (length out₀) x from len (k .used) (k .len) (from + k .used) len′ p (g .1) w (g .2) refl n
 
 -- THE PROGRAM: of blocks of input, wherever they end, the rows of the lines that the line reader hands over are the rows
 -- of the lines of the input.

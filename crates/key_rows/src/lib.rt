@@ -30,7 +30,7 @@ pub struct Keyed {
 }
 
 // Room for a form, which has at most 255 bytes.
-fn form_buffer() -> [u8; 256]
+pub fn form_buffer() -> [u8; 256]
     ensures { λ r. ⌜ length r ≡ 256 ⌝ }
 {
     [0u8; 256]
@@ -82,7 +82,7 @@ fn put_row(
 }
 
 // The rows over tables that passed the check, each with its hints.
-fn rows_hinted(
+pub fn rows_hinted(
     piece: &[u8],
     aliases: &[u8],
     alias_hints: &[u16],

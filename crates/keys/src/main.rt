@@ -1,90 +1,117 @@
 // Opens aliases.tsv and likely.tsv in the current folder, reads identifiers from standard input, one a line, and prints of
 // each what was asked, the number and the minimised form, parted by tabs. Bytes after the last 0A are a line unless there
-// are none. A bad table gives, after the header, its line and nothing else.
-use libc::STDOUT_FILENO;
+// are none. A bad table gives, after the header, its line and nothing else. What fails is said on standard error and ends the
+// run.
+use key_rows::form_buffer;
+use program_io::Status;
+use program_io::finish;
 use program_io::input;
 use program_io::input::Input;
-use program_io::load;
-use std::num::wrapping_add_usize;
+use program_io::load_table;
+use program_io::output;
+use program_io::output::Output;
+use program_io::status_of;
+use table::hints::fill_hints;
+use table::hints::many;
+use table_check::Verdict;
+use table_check::check_likely;
 ghost use mathlib.Core.Path.{_≡_};
+ghost use mathlib.Core.Bool.{false};
 ghost use mathlib.Core.List.{List};
 ghost use Prim.Native.Nat.{_≤_};
 ghost use lib.ListN.{length};
+ghost use Rattle.table.specs.Hints.{Hinted};
+ghost use Rattle.lines.specs.Pieces.{rowsText};
 ghost use Rattle.lines.specs.Squeeze.{Bytes};
+ghost use Rattle.operations.specs.Both.{TestedBoth};
+ghost use Rattle.key_rows.specs.Keys.{keyRow};
 ghost use Rattle.program_io.specs.Handed.{Room};
-ghost use Rattle.keys.specs.Answered.{Prints, Answers};
+ghost use Rattle.program_io.specs.Printed.{PrintsLines, Answers};
+ghost use Rattle.table.specs.Lines.{lines};
 
-// How many bytes of rows were printed, modulo 2^64; or the number of a bad table, whose line was.
-struct Printed {
-    number: u8,
-    len: usize,
-}
-
-// The same of a run, with the input as it was read.
+// The input as it was read, and the output as it was printed.
 struct Answered {
-    number: u8,
-    len: usize,
     input: Input,
+    output: Output,
 }
 
-// Prints the rows of the lines of a piece, as many at a time as have room in out; or the line of a bad table. A bad table
-// shows with an empty piece too.
-fn print_rows(piece: &[u8], aliases: &[u8], likely: &[u8], out: &mut [u8]) -> Printed
-    requires { ⌜ 540 ≤ length (now out) ⌝ }
-    ensures { λ r. ⌜ Prints (now (aliases .entry)) (now (likely .entry)) (now (piece .entry)) r ⌝ }
+// Prints the rows of the lines of a piece, as many at a time as have room in out; none after a write that failed.
+fn print_rows(
+    from: Output,
+    piece: &[u8],
+    aliases: &[u8],
+    alias_hints: &[u16],
+    likely: &[u8],
+    likely_hints: &[u16],
+    form: &mut [u8],
+    out: &mut [u8],
+) -> Output
+    requires { let aliases = now aliases in let likely = now likely in
+        ⌜ TestedBoth aliases likely × Hinted aliases (now «alias_hints») × Hinted likely (now «likely_hints») × (length (now form) ≡ 256)
+        × (540 ≤ length (now out)) × (from .failed ≡ false) ⌝ }
+    ensures { λ r. ⌜ PrintsLines (rowsText (keyRow (now (aliases .entry)) (now (likely .entry)))) (lines (now (piece .entry))) from r ⌝ }
 {
-    let mut from: usize = 0;
-    let mut len: usize = 0;
-    loop {
-        let k = key_rows::rows_of(&piece[from..], aliases, likely, out);
-        if k.number != 0 {
-            program_io::print_table(k.number, k.place, k.table);
-            return Printed {
-                number: k.number,
-                len,
-            };
+    let mut o = from;
+    let mut at = 0;
+    while at < piece.len() {
+        let k = key_rows::rows_hinted(
+            &piece[at..],
+            aliases,
+            alias_hints,
+            likely,
+            likely_hints,
+            form,
+            out,
+        );
+        let len = k.len;
+        o = output::print(o, &out[..len]);
+        if output::has_failed(o) {
+            return o;
         }
-        let more = k.len;
-        io::write_all(STDOUT_FILENO, &out[..more]);
-        len = wrapping_add_usize(len, more);
-        from += k.used;
-        if from == piece.len() {
-            return Printed { number: 0, len };
-        }
+        at += k.used;
     }
+    o
 }
 
-// Reads to the end of the input, or to the first piece where a table is bad.
+// Reads to the end of the input, or until reading or printing fails.
 fn answer_input(
     aliases: &[u8],
+    alias_hints: &[u16],
     likely: &[u8],
+    likely_hints: &[u16],
+    form: &mut [u8],
     block: &mut [u8],
     piece: &mut [u8],
     out: &mut [u8],
 ) -> Answered
-    requires { ⌜ Room (length (now block)) (length (now piece)) × (540 ≤ length (now out)) ⌝ }
-    ensures { λ r. ⌜ ((bs : List Bytes) × Answers (now (aliases .entry)) (now (likely .entry)) bs r) ⌝ }
+    requires { let aliases = now aliases in let likely = now likely in
+        ⌜ TestedBoth aliases likely × Hinted aliases (now «alias_hints») × Hinted likely (now «likely_hints») × (length (now form) ≡ 256)
+        × Room (length (now block)) (length (now piece)) × (540 ≤ length (now out)) ⌝ }
+    ensures { λ r. ⌜ ((bs : List Bytes) × Answers (rowsText (keyRow (now (aliases .entry)) (now (likely .entry)))) bs (r .input) (r .output)) ⌝ }
 {
     let mut input = input::begin();
-    let mut len: usize = 0;
+    let mut output = output::begin();
     loop {
         input = input::next(input, block, piece);
+        if input::has_failed(input) {
+            return Answered { input, output };
+        }
         let whole = input::whole(input);
-        let p = print_rows(&piece[..whole], aliases, likely, out);
-        len = wrapping_add_usize(len, p.len);
-        if p.number != 0 {
-            return Answered {
-                number: p.number,
-                len,
-                input,
-            };
+        output = print_rows(
+            output,
+            &piece[..whole],
+            aliases,
+            alias_hints,
+            likely,
+            likely_hints,
+            form,
+            out,
+        );
+        if output::has_failed(output) {
+            return Answered { input, output };
         }
         if input::is_ended(input) {
-            return Answered {
-                number: 0,
-                len,
-                input,
-            };
+            return Answered { input, output };
         }
     }
 }
@@ -96,18 +123,57 @@ fn out_buffer() -> [u8; 786432]
     [0; 786432]
 }
 
-fn run(aliases: &[u8], likely: &[u8]) {
+// Answers the input over tables that passed their check; their hints and the rooms are made once.
+fn answer(aliases: &[u8], likely: &[u8]) -> Status
+    requires { ⌜ TestedBoth (now aliases) (now likely) ⌝ }
+{
+    let mut a = many();
+    fill_hints(aliases, &mut a);
+    let mut l = many();
+    fill_hints(likely, &mut l);
+    let mut form = form_buffer();
     let mut block = input::block_buffer();
     let mut piece = input::piece_buffer();
     let mut out = out_buffer();
-    answer_input(aliases, likely, &mut block, &mut piece, &mut out);
+    let r = answer_input(
+        aliases,
+        &a,
+        likely,
+        &l,
+        &mut form,
+        &mut block,
+        &mut piece,
+        &mut out,
+    );
+    status_of(b"keys", r.input, r.output)
+}
+
+// Prints the header, tests the tables, and answers the input.
+fn run(aliases: &[u8], likely: &[u8]) -> Status {
+    let o = output::print(output::begin(), b"asked\tnumber\tkept\n");
+    if output::has_failed(o) {
+        return status_of(b"keys", input::begin(), o);
+    }
+    let v = check_likely(aliases, likely);
+    if let Verdict::Bad(number, place, table) = v {
+        let p = program_io::print_table(o, number, place, table);
+        return program_io::refused(b"keys", p);
+    }
+    answer(aliases, likely)
 }
 
 fn main() {
-    io::write_all(STDOUT_FILENO, b"asked\tnumber\tkept\n");
     let mut a = program_io::buffer();
     let mut l = program_io::buffer();
-    let a_len = load(b"aliases.tsv", &mut a);
-    let l_len = load(b"likely.tsv", &mut l);
-    run(&a[..a_len], &l[..l_len]);
+    let x = load_table(b"keys", b"aliases.tsv", &mut a);
+    if !x.read {
+        return finish(Status::Failed);
+    }
+    let y = load_table(b"keys", b"likely.tsv", &mut l);
+    if !y.read {
+        return finish(Status::Failed);
+    }
+    let a_len = x.len;
+    let l_len = y.len;
+    finish(run(&a[..a_len], &l[..l_len]))
 }

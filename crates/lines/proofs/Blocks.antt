@@ -33,6 +33,29 @@ unfolding allLines
 all-more [] x = append-nil (lines x)
 all-more (y ∷ xs) x = ap (λ (z : List Bytes). lines y ++ z) (all-more xs x) ∙ sym (append-assoc (lines y) (allLines xs) (lines x))
 
+-- The lines that some blocks and then others hand over.
+over-append : (u : Bytes) (bs cs : List Bytes) → handedOver u (bs ++ cs) ≡ handedOver u bs ++ handedOver (unfinished u bs) cs
+unfolding handedOver unfinished
+over-append u [] cs = refl
+over-append u (b ∷ bs) cs = ap (_∷_ (take (wholeLength u b) (takenIn u b))) (over-append (drop (wholeLength u b) (takenIn u b)) bs cs)
+
+unfinished-append : (u : Bytes) (bs cs : List Bytes) → unfinished u (bs ++ cs) ≡ unfinished (unfinished u bs) cs
+unfolding unfinished
+unfinished-append u [] cs = refl
+unfinished-append u (b ∷ bs) cs = unfinished-append (drop (wholeLength u b) (takenIn u b)) bs cs
+
+all-append : (xs ys : List Bytes) → allLines (xs ++ ys) ≡ allLines xs ++ allLines ys
+unfolding allLines
+all-append [] ys = refl
+all-append (x ∷ xs) ys = ap (λ (z : List Bytes). lines x ++ z) (all-append xs ys) ∙ sym (append-assoc (lines x) (allLines xs) (allLines ys))
+
+pub handed-rest : (bs cs : List Bytes) → allLines (handed [] (bs ++ cs)) ≡ allLines (handedOver [] bs) ++ allLines (handed (unfinished [] bs) cs)
+unfolding handed
+handed-rest bs cs =
+    ap allLines (ap₂ (λ (xs : List Bytes) (x : Bytes). xs ++ (x ∷ [])) (over-append [] bs cs) (unfinished-append [] bs cs)
+    ∙ append-assoc (handedOver [] bs) (handedOver (unfinished [] bs) cs) (unfinished (unfinished [] bs) cs ∷ []))
+    ∙ all-append (handedOver [] bs) (handedOver (unfinished [] bs) cs ++ (unfinished (unfinished [] bs) cs ∷ []))
+
 -- Nothing was read yet.
 pub carried-start : (t : Taken) (piece : Bytes) → t .whole ≡ 0 → t .end ≡ 0 → Carries [] t piece
 unfolding Carries unfinished

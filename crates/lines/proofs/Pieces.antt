@@ -17,7 +17,7 @@ use Rattle.lines.specs.Squeeze.{Bytes, handed, allLines, together}
 use Rattle.lines.proofs.Laws.{all-lines}
 use Rattle.lines.specs.Pieces.{rowsText, answered, span, pieceText, atMost, pieceUsed, Next}
 
-drop-most : (x : Bytes) (m : ℕ) → drop (atMost (length x) m) x ≡ drop m x
+pub drop-most : (x : Bytes) (m : ℕ) → drop (atMost (length x) m) x ≡ drop m x
 unfolding atMost
 drop-most x m = ⊎-elim (λ h. ap (λ (k : ℕ). drop k x) (let e : length x - (length x - m) ≡ m = omega arith in e)) (λ h. rw (drop-of-length-le x {i = m} (omega arith), drop-of-length-le x {i = length x - (length x - m)} (omega arith))) (le-or-lt m (length x))
 
@@ -43,6 +43,27 @@ line x i e h q = record {
 pub next-above : (x : Bytes) (i e at : ℕ) → i < length x → e ≡ endOf 10 x i → Next (length x) e at → i < at
 next-above x i e at h q n = let l = line x i e h q in ⊎-elim (λ g. let z = n .end g in omega (arith, l .low)) (λ g. let z = n .behind g in omega (arith, l .low)) (le-or-lt (length x) e)
 
+-- no rows
+pub rows-none : (row : Bytes → Bytes) → rowsText row [] ≡ []
+unfolding rowsText
+rows-none row = refl
+
+-- the rows of some lines, then those of others
+pub rows-append : (row : Bytes → Bytes) (ls ms : List Bytes) → rowsText row (ls ++ ms) ≡ rowsText row ls ++ rowsText row ms
+unfolding rowsText
+rows-append row [] ms = refl
+rows-append row (l ∷ ls) ms = ap (λ (x : Bytes). row l ++ x) (rows-append row ls ms) ∙ sym (append-assoc (row l) (rowsText row ls) (rowsText row ms))
+
+-- the lines from there on, and how many bytes are used up to it
+pub next-lines : (x : Bytes) (e at : ℕ) → Next (length x) e at → lines (drop (e + 1) x) ≡ lines (drop at x)
+next-lines x e at n =
+    ⊎-elim (λ h. rw (drop-of-length-le x {i = e + 1} (omega arith), drop-of-length-le x {i = at} (let z = n .end h in omega arith)))
+    (λ h. ap (λ (k : ℕ). lines (drop k x)) (sym (n .behind h))) (le-or-lt (length x) e)
+
+pub next-used : (x : Bytes) (e at at′ s : ℕ) → at ≤ e → e ≤ length x → Next (length x) e at′ → atMost (length x) (at′ + s) ≡ atMost (length x) (at + (e - at + 1 + s))
+unfolding atMost
+next-used x e at at′ s h k n = ⊎-elim (λ g. let z = n .end g in omega arith) (λ g. let z = n .behind g in omega arith) (le-or-lt (length x) e)
+
 module _ (row : Bytes → Bytes) (need : ℕ) where
   answered-more : (room : ℕ) (l : Bytes) (ls : List Bytes) → need ≤ room → answered row need room (l ∷ ls) ≡ l ∷ answered row need (room - length (row l)) ls
   unfolding answered
@@ -53,25 +74,25 @@ module _ (row : Bytes → Bytes) (need : ℕ) where
   answered-full room [] h = refl
   answered-full room (l ∷ ls) h = rw (lt-leb need room h, answered)
 
-  -- The rows of the lines that are answered, then those of the rest of the piece, are the rows of all its lines.
+  -- The lines that are answered, then those of the rest of the piece, are all its lines.
   Rest : ℕ → Bytes → Type 0
-  Rest room x = rowsText row (answered row need room (lines x)) ++ rowsText row (lines (drop (span (answered row need room (lines x))) x)) ≡ rowsText row (lines x)
+  Rest room x = answered row need room (lines x) ++ lines (drop (span (answered row need room (lines x))) x) ≡ lines x
 
   rest-full : (room : ℕ) (x : Bytes) → room < need → Rest room x
-  unfolding rowsText span Rest
+  unfolding span Rest
   rest-full room x h = rw (answered-full room (lines x) h)
 
   rest-none : (room : ℕ) → Rest room []
-  unfolding rowsText span answered lines Rest
+  unfolding span answered lines Rest
   rest-none room = refl
 
   rest-more : (room : ℕ) (x : Bytes) (e : ℕ) → need ≤ room → Line x 0 e → Rest (room - length (row (take e x))) (drop (e + 1) x) → Rest room x
-  unfolding rowsText span Rest
+  unfolding span Rest
   rest-more room x e h l r =
       let a = answered row need (room - length (row (take e x))) (lines (drop (e + 1) x)) in
       let z : e - 0 ≡ e = omega arith in
       let n : length (take e x) + 1 + span a ≡ e + 1 + span a = let s = rw z at (l .size) in omega arith in
-      rw (rw z at (l .first), answered-more room (take e x) (lines (drop (e + 1) x)) h, n, ← (drop-drop (span a) (e + 1) x)) (append-assoc (row (take e x)) (rowsText row a) _ ∙ ap (λ (y : Bytes). row (take e x) ++ y) r)
+      rw (rw z at (l .first), answered-more room (take e x) (lines (drop (e + 1) x)) h, n, ← (drop-drop (span a) (e + 1) x)) (ap (_∷_ (take e x)) r)
 
   rest-from : (k room : ℕ) (x : Bytes) → length x ≤ k → Rest room x
   rest-from zero room [] h = rest-none room
@@ -80,9 +101,13 @@ module _ (row : Bytes → Bytes) (need : ℕ) where
   rest-from (suc k) room (b ∷ x) h =
       ⊎-elim (λ g. let e = endOf 10 (b ∷ x) 0 in rest-more room (b ∷ x) e g (line (b ∷ x) 0 e (omega arith) refl) (rest-from k (room - length (row (take e (b ∷ x)))) (drop (e + 1) (b ∷ x)) (omega (arith, length-drop (e + 1) (b ∷ x))))) (rest-full room (b ∷ x)) (le-or-lt need room)
 
+  pub rest-lines : (room : ℕ) (x : Bytes) → answered row need room (lines x) ++ lines (drop (pieceUsed row need room x) x) ≡ lines x
+  unfolding pieceUsed Rest
+  rest-lines room x = rw (drop-most x (span (answered row need room (lines x)))) (rest-from (length x) room x (omega arith))
+
   pub rest-rows : (room : ℕ) (x : Bytes) → pieceText row need room x ++ rowsText row (lines (drop (pieceUsed row need room x) x)) ≡ rowsText row (lines x)
-  unfolding pieceText pieceUsed Rest
-  rest-rows room x = rw (drop-most x (span (answered row need room (lines x)))) (rest-from (length x) room x (omega arith))
+  unfolding pieceText
+  rest-rows room x = sym (rows-append row (answered row need room (lines x)) (lines (drop (pieceUsed row need room x) x))) ∙ ap (rowsText row) (rest-lines room x)
 
   -- Rows that are being made: what is left of the piece settles the rest.
   abbrev left : Bytes → Bytes → ℕ → ℕ → List Bytes
@@ -101,15 +126,6 @@ module _ (row : Bytes → Bytes) (need : ℕ) where
   going-start x out =
       let z : length out - 0 ≡ length out = omega arith in
       record { within = omega arith; room = omega arith; same = refl; used = rw z (ap (atMost (length x)) (let y : 0 + span (answered row need (length out) (lines x)) ≡ span (answered row need (length out) (lines x)) = omega arith in y)); total = rw z (omega arith); bytes = rw z refl }
-
-  next-lines : (x : Bytes) (e at : ℕ) → Next (length x) e at → lines (drop (e + 1) x) ≡ lines (drop at x)
-  next-lines x e at n =
-      ⊎-elim (λ h. rw (drop-of-length-le x {i = e + 1} (omega arith), drop-of-length-le x {i = at} (let z = n .end h in omega arith)))
-      (λ h. ap (λ (k : ℕ). lines (drop k x)) (sym (n .behind h))) (le-or-lt (length x) e)
-
-  next-used : (x : Bytes) (e at at′ s : ℕ) → at ≤ e → e ≤ length x → Next (length x) e at′ → atMost (length x) (at′ + s) ≡ atMost (length x) (at + (e - at + 1 + s))
-  unfolding atMost
-  next-used x e at at′ s h k n = ⊎-elim (λ g. let z = n .end g in omega arith) (λ g. let z = n .behind g in omega arith) (le-or-lt (length x) e)
 
   pub going-more : (x out₀ out out′ : Bytes) (at at′ e len len′ : ℕ) → Going x out₀ out at len → at < length x → e ≡ endOf 10 x at → Next (length x) e at′ → len + need ≤ length out₀
       → len′ ≡ len + length (row (take (e - at) (drop at x))) → out′ ≡ sets out len (row (take (e - at) (drop at x))) → len′ ≤ len + need
@@ -164,7 +180,7 @@ first-enough answer same long x =
 -- A program over the line reader: where of a line only the first 260 bytes matter, the rows of the lines that are handed
 -- over are the rows of the lines of the input, wherever its blocks end.
 module _ (row : Bytes → Bytes) (first : (x : Bytes) → row (take 260 x) ≡ row x) where
-  rows-first : (ls : List Bytes) → rowsText row (map (take 260) ls) ≡ rowsText row ls
+  pub rows-first : (ls : List Bytes) → rowsText row (map (take 260) ls) ≡ rowsText row ls
   unfolding rowsText
   rows-first [] = refl
   rows-first (l ∷ ls) = ap₂ (λ (a b : Bytes). a ++ b) (first l) (rows-first ls)

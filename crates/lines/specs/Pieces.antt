@@ -3,7 +3,7 @@
 use mathlib.Core.Bool.{true, false}
 use mathlib.Core.List.{List, [], _∷_, _++_}
 use mathlib.Core.Path.{_≡_}
-use Prim.Native.Nat.{ℕ, _+_, _-_, _%_, _^_, _≤_, _<_}
+use Prim.Native.Nat.{ℕ, _+_, _-_, _≤_, _<_}
 use lib.Dec.{leb}
 use lib.ListN.{length}
 use Rattle.table.specs.Lines.{lines}
@@ -13,10 +13,6 @@ use Rattle.lines.specs.Squeeze.{Bytes}
 unfoldable pub rowsText : (Bytes → Bytes) → List Bytes → Bytes
 rowsText row [] = []
 rowsText row (l ∷ ls) = row l ++ rowsText row ls
-
--- how many bytes they are, as a word of 64 bits counts them
-unfoldable pub rowsCount : (Bytes → Bytes) → List Bytes → ℕ
-rowsCount row ls = length (rowsText row ls) % 2 ^ 64
 
 -- the lines that are answered in so many free bytes
 unfoldable pub answered : (Bytes → Bytes) → ℕ → ℕ → List Bytes → List Bytes

@@ -1,1 +1,4 @@
+pub mod Calls
 pub mod Handed
+pub mod Printed
+pub mod Status

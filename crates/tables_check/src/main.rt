@@ -1,16 +1,61 @@
-// Checks aliases.tsv, likely.tsv and parents.tsv in the current folder, and prints one line: `table`, number, table and
-// place, parted by tabs; all 0 where they pass. A file that can't be opened counts as zero bytes.
+// Checks aliases.tsv, likely.tsv and parents.tsv in the current folder, and prints one line: `table`, number, table and place,
+// then the line of the file, the row and the meaning in words, parted by tabs. A file that can't be opened counts as zero
+// bytes; one that can't be read ends the run, with no line printed.
+use program_io::Status;
 use program_io::buffer;
-use program_io::load;
-use program_io::print_table;
+use program_io::finish;
+use program_io::input;
+use program_io::load_table;
+use program_io::output;
+use program_io::status_of;
+ghost use mathlib.Core.Path.{_≡_};
+ghost use lib.ListN.{length};
+
+// Room for the line.
+fn line_buffer() -> [u8; 2048]
+    ensures { λ r. ⌜ length r ≡ 2048 ⌝ }
+{
+    [0; 2048]
+}
+
+// Checks the tables, and prints the line.
+fn run(aliases: &[u8], likely: &[u8], parents: &[u8]) -> Status {
+    let v = altazhbey::check(aliases, likely, parents);
+    let mut out = line_buffer();
+    let len = table_report::write(
+        v.number,
+        v.place,
+        v.table,
+        aliases,
+        likely,
+        parents,
+        &mut out,
+    );
+    let o = output::print(output::begin(), &out[..len]);
+    if v.number != 0 {
+        return program_io::refused(b"tables_check", o);
+    }
+    status_of(b"tables_check", input::begin(), o)
+}
 
 fn main() {
     let mut a = buffer();
     let mut l = buffer();
     let mut p = buffer();
-    let a_len = load(b"aliases.tsv", &mut a);
-    let l_len = load(b"likely.tsv", &mut l);
-    let p_len = load(b"parents.tsv", &mut p);
-    let v = altazhbey::check(&a[..a_len], &l[..l_len], &p[..p_len]);
-    print_table(v.number, v.place, v.table);
+    let x = load_table(b"tables_check", b"aliases.tsv", &mut a);
+    if !x.read {
+        return finish(Status::Failed);
+    }
+    let y = load_table(b"tables_check", b"likely.tsv", &mut l);
+    if !y.read {
+        return finish(Status::Failed);
+    }
+    let z = load_table(b"tables_check", b"parents.tsv", &mut p);
+    if !z.read {
+        return finish(Status::Failed);
+    }
+    let a_len = x.len;
+    let l_len = y.len;
+    let p_len = z.len;
+    finish(run(&a[..a_len], &l[..l_len], &p[..p_len]))
 }

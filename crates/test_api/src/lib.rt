@@ -1,7 +1,8 @@
 // For tests and benchmarks only, not shipped: the lookup of one row, the check of the tables, reading and the operations
-// over tested tables, as numbers that a harness can call.
+// over tested tables, as numbers that a harness can call; and the words of a number.
 pub mod reads;
 pub mod repeats;
+pub mod words;
 
 use table::hints::few;
 use table::hints::fill_hints;

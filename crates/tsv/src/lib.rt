@@ -1,11 +1,15 @@
 // Inner. Rows of text as the programs print them: fields, each with the mark that ends it (a tab, or 0A at the last
 // one).
+mod shown;
+
+use shown::put_safe;
 ghost use mathlib.Core.Path.{_≡_};
-ghost use Prim.Native.Nat.{_+_, _≤_, _<_};
+ghost use Prim.Native.Nat.{_+_, _*_, _≤_, _<_};
 ghost use lib.ListN.{length, drop};
 ghost use lib.Seq.{sets};
 ghost use Rattle.byte_string.specs.Strings.{Writes, WritesWithin};
 ghost use Rattle.tsv.specs.Fields.{decimal, field, askedOf, tableText, textIs};
+ghost use Rattle.tsv.specs.Shown.{shown};
 
 // The digits of a number, from the index `start` on.
 pub struct Digits {
@@ -99,6 +103,22 @@ pub fn put_asked(number: u8, line: &[u8], out: &mut [u8], at: usize) -> usize
         return put(b"-", 9, out, at);
     }
     put(line, 9, out, at)
+}
+
+// Writes src as it is shown, and the mark that ends it.
+pub fn put_shown(src: &[u8], most: usize, mark: u8, out: &mut [u8], at: usize) -> usize
+    requires { ⌜ at + 4 * most + 4 ≤ length (now out) ⌝ }
+    ensures { λ r. ⌜ WritesWithin (at + 4 * most + 4) (now (out .entry)) at (field (shown most (now (src .entry))) mark) r (now (out .exit)) ⌝ }
+{
+    if src.len() == 0 {
+        return put(b"-", mark, out, at);
+    }
+    let end = put_safe(src, most, out, at);
+    if src.len() <= most {
+        out[end] = mark;
+        return end + 1;
+    }
+    put(b"...", mark, out, end)
 }
 
 // Writes the line of a bad table at the front of out.

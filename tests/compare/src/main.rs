@@ -50,9 +50,28 @@ fn odd_tables(rng: &mut Rng) -> Vec<Vec<u8>> {
     tables
 }
 
-fn compare_tables(rounds: usize) -> Tally {
+/// The words of all numbers, with outputs of several lengths: the length, the whole output, and guard bytes around it.
+fn compare_words(tally: &mut Tally) {
+    const GUARD: usize = 24;
+    for number in 0..=255 {
+        let words = second::meaning(number).as_bytes();
+        for len in [0, 1, words.len(), 79, 80, 81, 100, 255, 4096] {
+            let mut bytes: Vec<u8> = (0..len + 2 * GUARD).map(|i| (i * 37 + len) as u8).collect();
+            let mut wanted = bytes.clone();
+            let written = if len < 80 { &b""[..] } else { words };
+            wanted[GUARD..][..written.len()].copy_from_slice(written);
+            if len >= 80 {
+                // The end of the row that the words close.
+                wanted[GUARD + written.len()] = b'\n';
+            }
+            let ours = test_api::meaning(number, &mut bytes[GUARD..GUARD + len]);
+            tally.note(&format!("words, {len} lent"), (ours, bytes), (written.len(), wanted), &[&[number], words]);
+        }
+    }
+}
+
+fn compare_tables(tally: &mut Tally, rounds: usize) {
     let mut rng = Rng::new(20_261_115);
-    let mut tally = Tally::default();
     for round in 0..rounds {
         let (mut a, mut l, mut p) = if rng.chance(1, 2) { gen::good_tables(&mut rng) } else { gen::tables(&mut rng) };
         if rng.chance(1, 2) {
@@ -84,7 +103,6 @@ fn compare_tables(rounds: usize) -> Tally {
             tally.note("lookup", test_api::lookup(t, &k), second::lookup(t, &k), &[t, &k]);
         }
     }
-    tally
 }
 
 fn main() {
@@ -92,6 +110,11 @@ fn main() {
     match &arguments.iter().map(String::as_str).collect::<Vec<_>>()[..] {
         ["identifiers"] => files::print_identifiers(),
         ["folders", into] => files::write_folders(into, 300).expect("written"),
-        _ => compare_tables(100_000).end(&[0, 12, 13, 14]),
+        _ => {
+            let mut tally = Tally::default();
+            compare_words(&mut tally);
+            compare_tables(&mut tally, 100_000);
+            tally.end(&[0, 12, 13, 14])
+        }
     }
 }

@@ -5,6 +5,7 @@ use second::Answer;
 extern "C" {
     fn probe_lookup(t: *const u8, t_len: usize, key: *const u8, key_len: usize) -> u64;
     fn probe_hinted(t: *const u8, t_len: usize, key: *const u8, key_len: usize) -> u64;
+    fn probe_meaning(number: u8, out: *mut u8, out_len: usize) -> u64;
     fn probe_check(a: *const u8, a_len: usize, l: *const u8, l_len: usize, p: *const u8, p_len: usize) -> u64;
 }
 
@@ -30,4 +31,9 @@ pub fn check(a: &[u8], l: &[u8], p: &[u8]) -> Answer {
         place: (r >> 16 & 0xFFFF) as usize,
         ..Answer::default()
     }
+}
+
+/// Writes the words of a number at the front, and gives their length; 0 where fewer than 80 bytes are lent.
+pub fn meaning(number: u8, out: &mut [u8]) -> usize {
+    unsafe { probe_meaning(number, out.as_mut_ptr(), out.len()) as usize }
 }

@@ -2,7 +2,7 @@
 //! reports.
 
 use crate::reading::LONGEST;
-use crate::{read, Answer, Report, Tables};
+use crate::{meaning, read, Answer, Report, Tables};
 
 /// The lines of an input. Bytes after the last 0A are a line unless there are
 /// none.
@@ -53,12 +53,28 @@ pub fn keys(input: &[u8], aliases: &[u8], likely: &[u8]) -> Vec<u8> {
 }
 
 /// The whole output of the program `inspect`: for each line what reading
-/// reports, with `-` for a subtag that isn't there.
-pub fn inspect(input: &[u8]) -> Vec<u8> {
+/// reports, with `-` for a subtag that isn't there, and what it means. Over
+/// aliases and likely rows, if there are any, the meaning is also whether an
+/// accepted identifier has a key.
+pub fn inspect(input: &[u8], tables: Option<(&[u8], &[u8])>) -> Vec<u8> {
     let mut output =
-        b"asked\tnumber\tplace\tlanguage\tscript\tregion\tvariants\textensions\n".to_vec();
+        b"asked\tnumber\tplace\tlanguage\tscript\tregion\tvariants\textensions\tmeaning\n".to_vec();
+    let tables = match tables.map(|(aliases, likely)| Tables::likely(aliases, likely)).transpose() {
+        Ok(tables) => tables,
+        Err(bad) => {
+            output.extend_from_slice(&table_line(bad));
+            return output;
+        }
+    };
     for line in lines(input) {
         let Report { number, place, language, script, region, variants, extensions } = read(line);
+        let unkeyed = tables.as_ref().and_then(|tables| tables.key(line).err());
+        let words = match unkeyed {
+            Some(refusal) if number == 0 => {
+                format!("as a key {}: {}", refusal.number, meaning(refusal.number))
+            }
+            _ => meaning(number).to_string(),
+        };
         print(
             &mut output,
             &[
@@ -70,6 +86,7 @@ pub fn inspect(input: &[u8]) -> Vec<u8> {
                 or_dash(&region),
                 variants.to_string().as_bytes(),
                 extensions.to_string().as_bytes(),
+                words.as_bytes(),
             ],
         );
     }

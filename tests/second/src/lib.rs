@@ -1,23 +1,31 @@
 //! A second, independent implementation of the rules of document 01: reading,
 //! the canonical form, maximising, minimising, the chain of parents, the check
 //! of the three tables, and the programs over them; and of the monthly bill of
-//! document 02, T-01.
+//! document 02, T-01, with the list of the lines that it refuses.
 
 pub mod bill;
 pub mod canonical;
 pub mod chain;
+pub mod damages;
 pub mod examples;
 pub mod gen;
 pub mod keys;
 pub mod likely;
 pub mod months;
 pub mod reading;
+pub mod refused;
 pub mod subtag;
 pub mod table;
+pub mod tables_check;
+pub mod trials;
+pub mod words;
 
 pub use bill::bill;
 pub use keys::{inspect, keys};
+pub use refused::refused;
 pub use table::{lookup, Tables};
+pub use tables_check::tables_check;
+pub use words::{meaning, shown};
 
 use reading::{Identifier, LONGEST};
 use subtag::Core;

@@ -1,5 +1,5 @@
-//! The command: answers cases from standard input, or runs `keys [DIR]`,
-//! `bill [DIR]`, `inspect`, `examples` or `months TABLES INTO COUNT`.
+//! The command: answers cases from standard input, or runs a program over the
+//! tables of a folder, the examples, or a generator.
 
 use second::keys::or_dash;
 use second::*;
@@ -12,16 +12,12 @@ fn main() -> ExitCode {
     let arguments: Vec<&str> = arguments.iter().map(String::as_str).collect();
     let done = match arguments[..] {
         [] => cases(),
-        ["keys"] => run_over_tables(keys, "."),
-        ["keys", folder] => run_over_tables(keys, folder),
-        ["bill"] => run_over_tables(bill, "."),
-        ["bill", folder] => run_over_tables(bill, folder),
-        ["inspect"] => run_inspect(),
         ["examples"] => run_examples(),
         ["months", tables, into, count] => run_months(tables, into, count),
-        _ => Err("usage: second [keys [DIR] | bill [DIR] | inspect | examples \
-            | months TABLES INTO COUNT]"
-            .to_string()),
+        ["trials", tables, into, count] => run_trials(tables, into, count),
+        [program] => run_program(program, "."),
+        [program, folder] => run_program(program, folder),
+        _ => Err(USAGE.to_string()),
     };
     match done {
         Ok(()) => ExitCode::SUCCESS,
@@ -31,6 +27,9 @@ fn main() -> ExitCode {
         }
     }
 }
+
+const USAGE: &str = "usage: second [(keys | bill | refused | inspect | tables_check) [DIR] \
+    | examples | (months | trials) TABLES INTO COUNT]";
 
 fn standard_input() -> Result<Vec<u8>, String> {
     let mut input = Vec::new();
@@ -45,12 +44,27 @@ fn print(output: &[u8]) -> Result<(), String> {
 
 /// A program over standard input and the tables of a folder. A file that can't
 /// be opened counts as zero bytes.
-fn run_over_tables(
-    program: impl Fn(&[u8], &[u8], &[u8]) -> Vec<u8>,
-    folder: &str,
-) -> Result<(), String> {
-    let file = |name| std::fs::read(Path::new(folder).join(name)).unwrap_or_default();
-    print(&program(&standard_input()?, &file("aliases.tsv"), &file("likely.tsv")))
+fn run_program(program: &str, folder: &str) -> Result<(), String> {
+    let path = |name: &str| Path::new(folder).join(name);
+    let file = |name| std::fs::read(path(name)).unwrap_or_default();
+    let (aliases, likely) = (file("aliases.tsv"), file("likely.tsv"));
+    match program {
+        "keys" => print(&keys(&standard_input()?, &aliases, &likely)),
+        "bill" | "refused" => {
+            let input = standard_input()?;
+            if let Some(note) = refused::note(&input) {
+                eprintln!("{program}: {note}");
+            }
+            let run = if program == "bill" { bill } else { refused };
+            print(&run(&input, &aliases, &likely))
+        }
+        "inspect" => {
+            let in_use = path("aliases.tsv").exists() || path("likely.tsv").exists();
+            print(&inspect(&standard_input()?, in_use.then_some((&aliases[..], &likely[..]))))
+        }
+        "tables_check" => print(&tables_check(&aliases, &likely, &file("parents.tsv"))),
+        _ => Err(USAGE.to_string()),
+    }
 }
 
 /// Random months, a folder each: the tables, and the lines in several orders.
@@ -66,8 +80,16 @@ fn run_months(tables: &str, into: &str, count: &str) -> Result<(), String> {
     Ok(())
 }
 
-fn run_inspect() -> Result<(), String> {
-    print(&inspect(&standard_input()?))
+/// Random trials, a folder each: the tables, usage lines and identifiers.
+fn run_trials(tables: &str, into: &str, count: &str) -> Result<(), String> {
+    let count = count.parse().map_err(|_| "no count".to_string())?;
+    let file = |name| std::fs::read(Path::new(tables).join(name)).map_err(|e| e.to_string());
+    let tables = [file("aliases.tsv")?, file("likely.tsv")?, file("parents.tsv")?];
+    for seed in 0..count {
+        let folder = Path::new(into).join(format!("{seed:04}"));
+        trials::trial(seed, &tables).write(&folder).map_err(|error| error.to_string())?;
+    }
+    Ok(())
 }
 
 fn run_examples() -> Result<(), String> {

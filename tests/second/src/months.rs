@@ -122,7 +122,7 @@ fn made_up(rng: &mut Rng, number: usize) -> Vec<u8> {
 }
 
 /// Any identifier, one with the subtags of a row, or one made up.
-fn identifier(rng: &mut Rng, rows: &[&[u8]]) -> Vec<u8> {
+pub(crate) fn identifier(rng: &mut Rng, rows: &[&[u8]]) -> Vec<u8> {
     let row = rng.pick(rows);
     let fields: Vec<&[u8]> = row.split(|&byte| byte == b'\t').collect();
     match rng.below(8) {

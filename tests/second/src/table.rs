@@ -44,7 +44,7 @@ impl Kind {
         }
     }
 
-    fn named(name: &[u8]) -> Option<Kind> {
+    pub(crate) fn named(name: &[u8]) -> Option<Kind> {
         [Kind::Language, Kind::Script, Kind::Region, Kind::Variant]
             .into_iter()
             .find(|kind| kind.name() == name)
@@ -77,9 +77,9 @@ struct Row {
 }
 
 impl Table {
-    /// Row by row, shape (12) before order (13). `shape` gives the length of
-    /// the key of a line, if it is of the right shape.
-    fn test(bytes: &[u8], name: u8, shape: fn(&[u8]) -> Option<usize>) -> Result<Table, Answer> {
+    /// Row by row, shape (12) before order (13).
+    fn test(bytes: &[u8], name: u8) -> Result<Table, Answer> {
+        let shape = SHAPES[usize::from(name) - 1];
         let mut rows: Vec<Row> = Vec::new();
         let mut place = 0;
         while place < bytes.len() {
@@ -123,6 +123,12 @@ impl Table {
         }
     }
 }
+
+/// The length of the key of a line, if the line has the right shape.
+type Shape = fn(&[u8]) -> Option<usize>;
+
+/// The shapes of the rows of aliases, likely and parents.
+pub(crate) const SHAPES: [Shape; 3] = [alias_shape, likely_shape, parent_shape];
 
 /// The fields of a row, parted by one tab; nothing if there are more or fewer.
 fn fields<const N: usize>(line: &[u8]) -> Option<[&[u8]; N]> {
@@ -198,9 +204,9 @@ impl Tables {
             }
         }
         let tables = Tables {
-            aliases: Table::test(aliases, 1, alias_shape)?,
-            likely: Table::test(likely, 2, likely_shape)?,
-            parents: Table::test(parents, 3, parent_shape)?,
+            aliases: Table::test(aliases, 1)?,
+            likely: Table::test(likely, 2)?,
+            parents: Table::test(parents, 3)?,
         };
         tables.aliases.clash(1, |key, value| tables.alias_clashes(key, value))?;
         tables.likely.clash(2, |_, value| tables.is_replaced(value))?;

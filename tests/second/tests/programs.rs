@@ -37,20 +37,54 @@ fn bad_tables_of_keys() {
     assert_eq!(run(b"", &[b'\n'; 32_769]), format!("{header}table\t11\t2\t0\n"));
 }
 
+const VIEW: &str =
+    "asked\tnumber\tplace\tlanguage\tscript\tregion\tvariants\textensions\tmeaning\n";
+
 #[test]
 fn lines_of_inspect() {
-    let header = "asked\tnumber\tplace\tlanguage\tscript\tregion\tvariants\textensions\n";
-    assert_eq!(inspect(b""), header.as_bytes());
+    let run = |input: &[u8]| String::from_utf8(inspect(input, None)).unwrap();
+    assert_eq!(run(b""), VIEW);
+    let none = "-\t-\t-\t0\t0";
     let expected = format!(
-        "{header}iw_latn_il\t0\t0\tiw\tLatn\tIL\t0\t0\n\
-        \t1\t0\t-\t-\t-\t0\t0\n\
-        en US\t3\n\
-        en-US-Latn\t5\t6\t-\t-\t-\t0\t0\n\
-        en-1994-x-a\t0\t0\ten\t-\t-\t1\t1\n"
-    )
-    .replace("en US\t3", "-\t3\t2\t-\t-\t-\t0\t0");
-    let found = inspect(b"iw_latn_il\n\nen US\nen-US-Latn\nen-1994-x-a");
-    assert_eq!(String::from_utf8(found).unwrap(), expected);
+        "{VIEW}iw_latn_il\t0\t0\tiw\tLatn\tIL\t0\t0\tdone\n\
+        \t1\t0\t{none}\tno bytes\n\
+        -\t3\t2\t{none}\ta byte that is no letter, digit, - or _\n\
+        en-US-Latn\t5\t6\t{none}\ta subtag that can't stand there\n\
+        en-1994-x-a\t0\t0\ten\t-\t-\t1\t1\tdone\n"
+    );
+    assert_eq!(run(b"iw_latn_il\n\nen US\nen-US-Latn\nen-1994-x-a"), expected);
+    let expected = format!(
+        "{VIEW}-\t2\t0\t{none}\tover 255 bytes\n\
+        en-\t4\t3\t{none}\ta subtag of 0 or over 8 bytes\n\
+        en-1994-1994\t6\t8\t{none}\ta repeated singleton, variant or t key\n\
+        en-u\t7\t3\t{none}\ta singleton or t key with nothing behind it\n\
+        fr\t0\t0\tfr\t-\t-\t0\t0\tdone\n"
+    );
+    let input = format!("{}\nen-\nen-1994-1994\nen-u\nfr\n", "a".repeat(256));
+    assert_eq!(run(input.as_bytes()), expected);
+}
+
+#[test]
+fn lines_of_inspect_over_tables() {
+    let run = |input: &[u8], aliases: &[u8], likely: &[u8]| {
+        String::from_utf8(inspect(input, Some((aliases, likely)))).unwrap()
+    };
+    let long = String::from_utf8(examples::long("Latn-x-", 5)).unwrap();
+    let expected = format!(
+        "{VIEW}iw_IL\t0\t0\tiw\t-\tIL\t0\t0\tdone\n\
+        fr\t0\t0\tfr\t-\t-\t0\t0\tas a key 8: no row of the likely table fits it\n\
+        fr-Latn-FR\t0\t0\tfr\tLatn\tFR\t0\t0\tdone\n\
+        {long}\t0\t0\tund\tLatn\t-\t0\t1\tas a key 9: its canonical or maximised form is over 255 bytes\n\
+        fr-u\t7\t3\t-\t-\t-\t0\t0\ta singleton or t key with nothing behind it\n"
+    );
+    let input = format!("iw_IL\nfr\nfr-Latn-FR\n{long}\nfr-u");
+    assert_eq!(run(input.as_bytes(), ALIASES, LIKELY), expected);
+    assert_eq!(
+        run(b"en", b"", b""),
+        format!("{VIEW}en\t0\t0\ten\t-\t-\t0\t0\tas a key 8: no row of the likely table fits it\n")
+    );
+    assert_eq!(run(b"en", b"x\n", b""), format!("{VIEW}table\t12\t1\t0\n"));
+    assert_eq!(run(b"", b"", &[b'a'; 32_769]), format!("{VIEW}table\t11\t2\t0\n"));
 }
 
 fn command(arguments: &[&str], input: &[u8]) -> (Vec<u8>, bool) {
@@ -118,17 +152,29 @@ fn subcommands() {
     let folder = std::env::temp_dir().join(format!("second-keys-{}", std::process::id()));
     std::fs::create_dir_all(&folder).unwrap();
     let name = folder.to_str().unwrap();
+    let run = |program: &str, input: &[u8]| {
+        let (printed, good) = command(&[program, name], input);
+        assert!(good);
+        printed
+    };
     // Files that can't be opened count as zero bytes.
-    let (printed, good) = command(&["keys", name], b"iw_IL\nfr\n");
-    assert!(good);
-    assert_eq!(printed, b"asked\tnumber\tkept\niw_IL\t8\t-\nfr\t8\t-\n");
+    assert_eq!(run("keys", b"iw_IL\nfr\n"), b"asked\tnumber\tkept\niw_IL\t8\t-\nfr\t8\t-\n");
+    assert_eq!(run("refused", b"1\ten\n"), refused(b"1\ten\n", b"", b""));
+    assert_eq!(run("tables_check", b""), b"table\t0\t0\t0\t0\t-\tdone\n");
+    // The parents are no table that inspect uses.
+    std::fs::write(folder.join("parents.tsv"), "x\n").unwrap();
+    assert_eq!(run("inspect", b"fr\n"), inspect(b"fr\n", None));
+    assert_eq!(run("tables_check", b""), tables_check(b"", b"", b"x\n"));
     std::fs::write(folder.join("aliases.tsv"), ALIASES).unwrap();
+    assert_eq!(run("inspect", b"fr\nen\n"), inspect(b"fr\nen\n", Some((ALIASES, b""))));
     std::fs::write(folder.join("likely.tsv"), LIKELY).unwrap();
-    let (printed, _) = command(&["keys", name], b"iw_IL\nfr\n");
-    assert_eq!(printed, b"asked\tnumber\tkept\niw_IL\t0\the\nfr\t8\t-\n");
+    assert_eq!(run("inspect", b"fr\nen\n"), inspect(b"fr\nen\n", Some((ALIASES, LIKELY))));
+    assert_eq!(run("keys", b"iw_IL\nfr\n"), b"asked\tnumber\tkept\niw_IL\t0\the\nfr\t8\t-\n");
+    assert_eq!(run("refused", b"1\ten\n2\tfr"), refused(b"1\ten\n2\tfr", ALIASES, LIKELY));
+    std::fs::remove_file(folder.join("aliases.tsv")).unwrap();
+    assert_eq!(run("inspect", b"fr\niw\n"), inspect(b"fr\niw\n", Some((b"", LIKELY))));
     std::fs::remove_dir_all(&folder).unwrap();
 
-    assert_eq!(command(&["inspect"], b"en\n").0, inspect(b"en\n"));
     let (printed, good) = command(&["examples"], b"");
     assert!(good && printed.ends_with(b" passed, 0 failed\n"));
     assert!(!command(&["other"], b"").1);

@@ -1,15 +1,19 @@
 -- `bill::make_text` meets its contract. Assumes nothing.
-use mathlib.Core.Path.{_≡_}
+use mathlib.Core.Path.{_≡_, refl, sym, _∙_}
+use mathlib.Core.List.{[]}
 use Prim.Native.Nat.{_≤_}
 use native.Mathlib.Omega.{arith}
 use lib.ListN.{length}
+use lib.Seq.{length-take-le}
+use Rattle.operations.proofs.CompleteChecked.{tested-both}
+use Rattle.program_io.proofs.Laws.{failure-of}
+use Rattle.bill_ledger.specs.Up.{Sized}
 use Rattle.bill_lines.proofs.Bills.{text-made}
+use Rattle.bill_lines.proofs.Helds.{held-stays, held-passes}
+use Rattle.bill.proofs.Laws.{makes-text, makes-nothing, makes-bad}
 use borrow.Author.Needs.{needs}
 use Rattle.bill.proofs.make_text.Statement.{statement}
 use Rattle.bill.proofs.make_text.Tie as tie
-
-piece-buffer-requires : tie.Need-piece-buffer-requires
-piece-buffer-requires c κs = search needs
 
 key-room-requires : tie.Need-key-room-requires
 key-room-requires c κs = search needs
@@ -17,17 +21,8 @@ key-room-requires c κs = search needs
 count-room-requires : tie.Need-count-room-requires
 count-room-requires c κs = search needs
 
-slice-aggregate-take-input : tie.Need-slice-aggregate-take-input
-slice-aggregate-take-input c = search needs
-
-slice-aggregate-take-input-2 : tie.Need-slice-aggregate-take-input-2
-slice-aggregate-take-input-2 c = search needs
-
-slice-aggregate-take-input-3 : tie.Need-slice-aggregate-take-input-3
-slice-aggregate-take-input-3 c = search needs
-
-take-input-requires : tie.Need-take-input-requires
-take-input-requires c κs = search needs
+start-requires : tie.Need-start-requires
+start-requires c κs = search needs
 
 slice-aggregate-write : tie.Need-slice-aggregate-write
 slice-aggregate-write c = search needs
@@ -38,32 +33,101 @@ slice-aggregate-write-2 c = search needs
 write-requires : tie.Need-write-requires
 write-requires c κs = search needs
 
+begin-requires : tie.Need-begin-requires
+begin-requires c κs = search needs
+
 same-length : tie.Need-same-length
 same-length c = search needs
 
 returns : tie.Need-returns
 returns c =
-    let w = c .before .before .write in
-    let t = c .before .before .before .before .before .before .before .before .before .before .before .before .before .take-input in
-    let s = c .before .before .before .before .before .before .before .before .before .before .before .before .before .before .before .before .before .before .before .before .before .before .before .before in
-    let h = t .ensures in
-    let same : length (t .last .1 .1 .0) ≡ length (s .args .block .now) = t .kept .1 .1 .0 in
-    let room : 65536 ≤ length (t .last .1 .1 .0) = omega (arith, same, s .pre .0) in
-    (search needs, (h .0, record { read = h .1 .read; text = text-made _ _ _ (t .result .counts) _ _ (t .last .1 .1 .0) _ (w .result) (h .1 .held) room (w .ensures) }))
+    let s = c .before .before .before .before .before .before .before .before .before .before .before .before .before .before .before in
+    let w = c .before .before .before .write in
+    let t = c .before .before .before .before .before .before .before .before .before .start in
+    let n : t .result .number ≡ 0 → ⊥ = c .before .before .before .before .before .before .before .if1 .taken in
+    let k = c .before .before .before .before .before .before .before .before .before .before .before .key-room in
+    let m = c .before .before .before .before .before .before .before .before .before .before .count-room in
+    let z : Sized (k .result) (m .result) = record { keys = k .ensures; counts = m .ensures } in
+    let same : length (w .last .1 .1 .1 .0) ≡ length (s .args .block .now) = search needs in
+    let fits = w .ensures .2 in (
+      (omega arith, sym (length-take-le (w .result) (w .last .1 .1 .1 .0) (omega arith))),
+      ([], makes-bad _ _ _ _ n (λ ls. text-made (s .args .aliases .now) (s .args .likely .now) ls (t .result) _ _ (s .args .block .now) _ (w .result) (held-stays _ _ [] ls (t .result) _ _ (t .ensures (k .result) (m .result) z) n) (s .pre .0) (w .ensures))),
+    )
+
+slice-aggregate-take-tested : tie.Need-slice-aggregate-take-tested
+slice-aggregate-take-tested c = search needs
+
+slice-aggregate-take-tested-2 : tie.Need-slice-aggregate-take-tested-2
+slice-aggregate-take-tested-2 c = search needs
+
+take-tested-requires : tie.Need-take-tested-requires
+take-tested-requires c κs =
+    let s = c .before .before .before .before .before .before .before .before .before .before .before in
+    let t = c .before .before .before .before .before .start in
+    let k = c .before .before .before .before .before .before .before .key-room in
+    let m = c .before .before .before .before .before .before .count-room in
+    let z : Sized (k .result) (m .result) = record { keys = k .ensures; counts = m .ensures } in
+    let h = t .ensures (k .result) (m .result) z in
+    let n : t .result .number ≡ 0 = c .before .before .before .if1 .left in
+    (tested-both _ _ (held-passes _ _ [] (t .result) _ _ h n), s .pre .0, s .pre .1, n, h)
+
+has-failed-requires : tie.Need-has-failed-requires
+has-failed-requires c κs = search needs
+
+same-length-2 : tie.Need-same-length-2
+same-length-2 c = search needs
+
+returns-2 : tie.Need-returns-2
+returns-2 c =
+    let t = c .before .before .before .before .before .before .before .before .take-tested in
+    ((omega arith, refl), (t .ensures .0, makes-nothing _ _ (t .ensures .0) (t .result) _ _ _ _ refl refl (t .ensures .1) (failure-of (t .result .input .last) (sym (c .before .has-failed .ensures) ∙ c .if2 .taken))))
+
+slice-aggregate-write-3 : tie.Need-slice-aggregate-write-3
+slice-aggregate-write-3 c = search needs
+
+slice-aggregate-write-4 : tie.Need-slice-aggregate-write-4
+slice-aggregate-write-4 c = search needs
+
+write-requires-2 : tie.Need-write-requires-2
+write-requires-2 c κs = search needs
+
+same-length-3 : tie.Need-same-length-3
+same-length-3 c = search needs
+
+returns-3 : tie.Need-returns-3
+returns-3 c =
+    let t = c .before .before .before .before .before .before .before .before .before .before .before .before .before .before .take-tested in
+    let w = c .before .before .write2 in
+    let s = c .before .before .before .before .before .before .before .before .before .before .before .before .before .before .before .before .before .before .before .before .before .before .before .before .before .before in
+    let same : length (t .last .1 .1 .1 .0) ≡ length (s .args .block .now) = search needs in
+    let room : 65536 ≤ length (t .last .1 .1 .1 .0) = omega (arith, same, s .pre .0) in
+    let after : length (w .last .1 .1 .1 .0) ≡ length (t .last .1 .1 .1 .0) = search needs in
+    let fits = w .ensures .2 in (
+      (omega arith, sym (length-take-le (w .result) (w .last .1 .1 .1 .0) (omega arith))),
+      (t .ensures .0, makes-text _ _ (t .ensures .0) (t .result) _ _ _ _ refl refl (λ ls h. text-made (s .args .aliases .now) (s .args .likely .now) ls (t .result .counts) _ _ (t .last .1 .1 .1 .0) _ (w .result) h room (w .ensures)) (t .ensures .1) (sym (c .before .before .before .before .before .before .before .has-failed .ensures) ∙ c .before .before .before .before .before .before .if2 .left)),
+    )
 
 pub make-text-spec : {M : Type 1} → statement M
 make-text-spec =
     tie.close
     (tie.spec
-    piece-buffer-requires
     key-room-requires
     count-room-requires
-    slice-aggregate-take-input
-    slice-aggregate-take-input-2
-    slice-aggregate-take-input-3
-    take-input-requires
+    start-requires
     slice-aggregate-write
     slice-aggregate-write-2
     write-requires
+    begin-requires
     same-length
-    returns)
+    returns
+    slice-aggregate-take-tested
+    slice-aggregate-take-tested-2
+    take-tested-requires
+    has-failed-requires
+    same-length-2
+    returns-2
+    slice-aggregate-write-3
+    slice-aggregate-write-4
+    write-requires-2
+    same-length-3
+    returns-3)

@@ -1,58 +1,51 @@
 -- `keys::answer_input` meets its contract: the rows of what was handed over so far are printed. Assumes nothing.
 use mathlib.Core.Path.{_≡_, refl, sym, _∙_, subst}
 use mathlib.Core.List.{List, [], _∷_, _++_}
-use mathlib.Core.Option.{none}
 use Prim.Native.Nat.{ℕ, _-_}
 use native.Mathlib.Omega.{arith}
 use lib.ListN.{length, take}
 use lib.Seq.{length-take-le}
-use Rattle.standard.specs.Table.{check, toMaximise}
 use Rattle.table.specs.Lines.{lines}
-use Rattle.lines.specs.Squeeze.{Bytes, handedOver, allLines}
-use Rattle.lines.specs.Pieces.{rowsCount}
+use Rattle.lines.specs.Squeeze.{Bytes}
+use Rattle.lines.specs.Pieces.{rowsText}
 use Rattle.lines.specs.Reader.{Placed}
-use Rattle.lines.proofs.Counts.{count-none, count-more, count-last}
+use Rattle.lines.proofs.Pieces.{rows-none, rows-append, rows-first}
 use Rattle.program_io.specs.Handed.{Going}
+use Rattle.program_io.specs.Printed.{PrintsLines}
+use Rattle.program_io.proofs.Laws.{block-of, end-of, failure-of}
+use Rattle.program_io.proofs.Printing.{Printed, printed-none, printed-more, handed-piece, answers-unread, answers-unwritten, answers-end}
 use Rattle.key_rows.specs.Keys.{keyRow}
-use Rattle.key_rows.proofs.Laws.{row-first, fault-number}
-use Rattle.keys.specs.Answered.{Prints}
+use Rattle.key_rows.proofs.Laws.{row-first}
 use borrow.Author.Needs.{needs}
 use Rattle.keys.proofs.answer_input.Statement.{statement}
 use Rattle.keys.proofs.answer_input.Tie as tie
 
 abbrev Inv-loop : tie.InvT-loop
-Inv-loop aliases likely block₀ piece₀ out₀ input₀ len₀ block piece out input len =
-    (length block ≡ length block₀) × (length piece ≡ length piece₀) × (length out ≡ length out₀) × Placed (input .taken) (length piece)
-    × ((bs : List Bytes) × Going bs input piece × (check toMaximise aliases likely [] ≡ none → len ≡ rowsCount (keyRow aliases likely) (allLines (handedOver [] bs))))
+Inv-loop aliases alias-hints likely likely-hints form₀ block₀ piece₀ out₀ input₀ output₀ form block piece out input output =
+    (length form ≡ length form₀) × (length block ≡ length block₀) × (length piece ≡ length piece₀) × (length out ≡ length out₀) × Placed (input .taken) (length piece)
+    × ((bs : List Bytes) × Going bs input piece × Printed (rowsText (keyRow aliases likely)) (rows-none (keyRow aliases likely)) bs output)
 
 abbrev μ-loop : tie.MeasureT-loop
-μ-loop aliases likely block₀ piece₀ out₀ input₀ len₀ block piece out input len = 18446744073709551615 - input .bytes
+μ-loop aliases alias-hints likely likely-hints form₀ block₀ piece₀ out₀ input₀ output₀ form block piece out input output =
+    18446744073709551615 - input .bytes
 
 begin-requires : tie.Need-begin-requires Inv-loop μ-loop
 begin-requires c κs = search needs
 
+begin-requires-2 : tie.Need-begin-requires-2 Inv-loop μ-loop
+begin-requires-2 c κs = search needs
+
 loop-holds : tie.Need-loop-holds Inv-loop μ-loop
 loop-holds c =
-    let b = c .begin .ensures in
-    (refl, refl, refl, record { behind = b .0 .behind; few = b .0 .few; within = omega (arith, b .0 .within) }, ([], b .1 _, λ _. count-none _))
+    let b = c .before .begin .ensures in
+    let o = c .begin2 .ensures in
+    (refl, refl, refl, refl, record { behind = b .0 .behind; few = b .0 .few; within = omega (arith, b .0 .within) }, ([], b .1 _, printed-none _ _ _ (o .0) (o .1)))
 
 next-requires : tie.Need-next-requires Inv-loop μ-loop
 next-requires c κs = search needs
 
-whole-requires : tie.Need-whole-requires Inv-loop μ-loop
-whole-requires c κs = search needs
-
-slice-reshare-prefix-print-rows : tie.Need-slice-reshare-prefix-print-rows Inv-loop μ-loop
-slice-reshare-prefix-print-rows c = search needs
-
-slice-aggregate-print-rows : tie.Need-slice-aggregate-print-rows Inv-loop μ-loop
-slice-aggregate-print-rows c = let h = sym (length-take-le (c .before .whole .result) (c .before .before .before .before .before .before .next .last .1 .1 .0) (search needs)) in search needs
-
-print-rows-requires : tie.Need-print-rows-requires Inv-loop μ-loop
-print-rows-requires c κs = search needs
-
-wrapping-add-usize-requires : tie.Need-wrapping-add-usize-requires Inv-loop μ-loop
-wrapping-add-usize-requires c κs = search needs
+has-failed-requires : tie.Need-has-failed-requires Inv-loop μ-loop
+has-failed-requires c κs = search needs
 
 same-length : tie.Need-same-length Inv-loop μ-loop
 same-length c = search needs
@@ -63,23 +56,40 @@ same-length-2 c = search needs
 same-length-3 : tie.Need-same-length-3 Inv-loop μ-loop
 same-length-3 c = search needs
 
--- what was printed of the piece that was handed over
-piece-rows : (c : tie.After-wrapping-add-usize Inv-loop μ-loop) → Prints (c .before .before .before .before .before .before .before .before .before .before .before .before .before .before .before .before .before .before .before .before .before .args .aliases .now) (c .before .before .before .before .before .before .before .before .before .before .before .before .before .before .before .before .before .before .before .before .before .args .likely .now) (take (c .before .before .before .before .before .before .before .before .before .before .before .next .result .taken .whole) (c .before .before .before .before .before .before .before .before .before .before .before .next .last .1 .1 .0)) (c .before .before .before .print-rows .result)
-piece-rows c =
-    let n = c .before .before .before .before .before .before .before .before .before .before .before .next in
-    let a = c .before .before .before .before .before .before .before .before .before .before .before .before .before .before .before .before .before .before .before .before .before .args in
-    subst (λ (k : ℕ). Prints (a .aliases .now) (a .likely .now) (take k (n .last .1 .1 .0)) (c .before .before .before .print-rows .result)) (c .before .before .before .before .before .before .whole .ensures) (c .before .before .before .print-rows .ensures)
+same-length-4 : tie.Need-same-length-4 Inv-loop μ-loop
+same-length-4 c = search needs
 
 returns : tie.Need-returns Inv-loop μ-loop
 returns c =
-    let p = piece-rows (c .before .before) in
-    ([], record { good = λ pass. absurd (c .if1 .taken (p .good pass .0)); bad = p .bad })
+    let n = c .before .before .before .before .before .before .next in
+    let l = c .before .before .before .before .before .before .before .before .before .loop in
+    let h = n .ensures .2 (l .inv .5 .0) (l .inv .5 .1) in
+    (l .inv .5 .0, answers-unread _ _ (l .inv .5 .0) (l .output) _ (l .inv .5 .2) (h .broken (failure-of (n .result .last) (sym (c .before .has-failed .ensures) ∙ c .if1 .taken))))
 
-is-ended-requires : tie.Need-is-ended-requires Inv-loop μ-loop
-is-ended-requires c κs = search needs
+whole-requires : tie.Need-whole-requires Inv-loop μ-loop
+whole-requires c κs = search needs
 
-same-length-4 : tie.Need-same-length-4 Inv-loop μ-loop
-same-length-4 c = search needs
+slice-reshare-prefix-print-rows : tie.Need-slice-reshare-prefix-print-rows Inv-loop μ-loop
+slice-reshare-prefix-print-rows c = search needs
+
+slice-aggregate-print-rows : tie.Need-slice-aggregate-print-rows Inv-loop μ-loop
+slice-aggregate-print-rows c = let h = sym (length-take-le (c .before .whole .result) (c .before .before .before .before .before .before .before .before .next .last .1 .1 .0) (search needs)) in search needs
+
+print-rows-requires : tie.Need-print-rows-requires Inv-loop μ-loop
+print-rows-requires c κs =
+    let s = c .before .before .before .before .before .before .before .before .before .before .before .before .before .before .before .before .before .before .before .before .before .before .before .before in
+    let l = c .before .before .before .before .before .before .before .before .before .before .before .before .before .loop in
+    (s .pre .0, s .pre .1, s .pre .2, l .inv .0 ∙ s .pre .3, (let k = l .inv .3 in omega (arith, k, s .pre .5)), l .inv .5 .2 .going)
+
+-- what was printed of the piece that was handed over
+piece-rows : (c : tie.After-print-rows Inv-loop μ-loop)
+    → PrintsLines (rowsText (keyRow (c .before .before .before .before .before .before .before .before .before .before .before .before .before .before .before .before .before .before .before .before .before .before .before .before .before .args .aliases .now) (c .before .before .before .before .before .before .before .before .before .before .before .before .before .before .before .before .before .before .before .before .before .before .before .before .before .args .likely .now))) (lines (take (c .before .before .before .before .before .before .before .before .before .before .before .next .result .taken .whole) (c .before .before .before .before .before .before .before .before .before .before .before .next .last .1 .1 .0))) (c .before .before .before .before .before .before .before .before .before .before .before .before .before .before .loop .output) (c .print-rows .result)
+piece-rows c =
+    subst (λ (k : ℕ). PrintsLines (rowsText (keyRow (c .before .before .before .before .before .before .before .before .before .before .before .before .before .before .before .before .before .before .before .before .before .before .before .before .before .args .aliases .now) (c .before .before .before .before .before .before .before .before .before .before .before .before .before .before .before .before .before .before .before .before .before .before .before .before .before .args .likely .now))) (lines (take k (c .before .before .before .before .before .before .before .before .before .before .before .next .last .1 .1 .0))) (c .before .before .before .before .before .before .before .before .before .before .before .before .before .before .loop .output) (c .print-rows .result))
+    (c .before .before .before .before .whole .ensures) (c .print-rows .ensures)
+
+has-failed-requires-2 : tie.Need-has-failed-requires-2 Inv-loop μ-loop
+has-failed-requires-2 c κs = search needs
 
 same-length-5 : tie.Need-same-length-5 Inv-loop μ-loop
 same-length-5 c = search needs
@@ -87,37 +97,64 @@ same-length-5 c = search needs
 same-length-6 : tie.Need-same-length-6 Inv-loop μ-loop
 same-length-6 c = search needs
 
+same-length-7 : tie.Need-same-length-7 Inv-loop μ-loop
+same-length-7 c = search needs
+
+same-length-8 : tie.Need-same-length-8 Inv-loop μ-loop
+same-length-8 c = search needs
+
 returns-2 : tie.Need-returns-2 Inv-loop μ-loop
 returns-2 c =
-    let n = c .before .before .before .before .before .before .before .before .before .before .before .before .before .before .before .next in
-    let l = c .before .before .before .before .before .before .before .before .before .before .before .before .before .before .before .before .before .before .loop in
-    let p = piece-rows (c .before .before .before .before) in
-    let bs = l .inv .4 .0 in
-    let h = n .ensures .2 bs (l .inv .4 .1) in
-    let e = sym (c .before .is-ended .ensures) ∙ c .if2 .taken in (
-      bs,
-      record {
-        good = λ pass. (refl, h .ended e, count-last _ bs _ (l .len) _ _ (l .inv .4 .2 pass) (p .good pass .1) (c .before .before .before .before .wrapping-add-usize .ensures) (row-first _ _) (h .last e));
-        bad = λ f g. absurd (fault-number _ _ f g (sym (p .bad f g) ∙ c .before .before .if1 .left));
-      },
-    )
+    let n = c .before .before .before .before .before .before .before .before .before .before .before .before .before .before .before .before .before .next in
+    let l = c .before .before .before .before .before .before .before .before .before .before .before .before .before .before .before .before .before .before .before .before .loop in
+    let bs = l .inv .5 .0 in
+    let h = n .ensures .2 bs (l .inv .5 .1) in
+    let p = piece-rows (c .before .before .before .before .before .before) in
+    let w = handed-piece bs _ (n .result) _ h (sym (c .before .before .before .before .before .before .before .before .before .before .before .before .has-failed .ensures) ∙ c .before .before .before .before .before .before .before .before .before .before .before .if1 .left) in
+    (w .0, answers-unwritten _ _ bs _ (l .output) _ _ (l .inv .5 .2) p (rows-append _ _) (w .0) _ (w .1) (sym (c .before .has-failed2 .ensures) ∙ c .if2 .taken))
+
+is-ended-requires : tie.Need-is-ended-requires Inv-loop μ-loop
+is-ended-requires c κs = search needs
+
+same-length-9 : tie.Need-same-length-9 Inv-loop μ-loop
+same-length-9 c = search needs
+
+same-length-10 : tie.Need-same-length-10 Inv-loop μ-loop
+same-length-10 c = search needs
+
+same-length-11 : tie.Need-same-length-11 Inv-loop μ-loop
+same-length-11 c = search needs
+
+same-length-12 : tie.Need-same-length-12 Inv-loop μ-loop
+same-length-12 c = search needs
+
+returns-3 : tie.Need-returns-3 Inv-loop μ-loop
+returns-3 c =
+    let n = c .before .before .before .before .before .before .before .before .before .before .before .before .before .before .before .before .before .before .before .next in
+    let l = c .before .before .before .before .before .before .before .before .before .before .before .before .before .before .before .before .before .before .before .before .before .before .loop in
+    let bs = l .inv .5 .0 in
+    let h = n .ensures .2 bs (l .inv .5 .1) in
+    let p = piece-rows (c .before .before .before .before .before .before .before .before) in
+    let e = end-of (n .result .last) (sym (c .before .is-ended .ensures) ∙ c .if3 .taken) in
+    (bs, answers-end _ _ bs _ (l .output) _ _ (l .inv .5 .2) p (rows-append _ _) (rows-first _ (row-first _ _)) _ (h .last e) (h .ended e) (sym (c .before .before .before .has-failed2 .ensures) ∙ c .before .before .if2 .left))
 
 loop-less : tie.Need-loop-less Inv-loop μ-loop
 loop-less c =
-    let n = c .before .before .before .before .before .before .before .before .before .before .before .before .before .before .before .next .ensures .1 in
-    let s = n .some (sym (c .before .is-ended .ensures) ∙ c .if2 .left) in
-    omega (arith, n .bytes, n .most)
+    let n = c .before .before .before .before .before .before .before .before .before .before .before .before .before .before .before .before .before .before .before .next in
+    let k = n .ensures .1 in
+    let s = k .some (block-of (n .result .last) (sym (c .before .before .before .before .before .before .before .before .before .before .before .before .before .before .has-failed .ensures) ∙ c .before .before .before .before .before .before .before .before .before .before .before .before .before .if1 .left) (sym (c .before .is-ended .ensures) ∙ c .if3 .left)) in
+    omega (arith, k .bytes, k .most)
 
 loop-again : tie.Need-loop-again Inv-loop μ-loop
 loop-again c =
-    let n = c .before .before .before .before .before .before .before .before .before .before .before .before .before .before .before .next in
-    let l = c .before .before .before .before .before .before .before .before .before .before .before .before .before .before .before .before .before .before .loop in
-    let p = piece-rows (c .before .before .before .before) in
-    let bs = l .inv .4 .0 in
+    let n = c .before .before .before .before .before .before .before .before .before .before .before .before .before .before .before .before .before .before .before .next in
+    let l = c .before .before .before .before .before .before .before .before .before .before .before .before .before .before .before .before .before .before .before .before .before .before .loop in
+    let bs = l .inv .5 .0 in
+    let h = n .ensures .2 bs (l .inv .5 .1) in
+    let p = piece-rows (c .before .before .before .before .before .before .before .before) in
     let cs = bs ++ (take (n .result .got) (n .last .1 .0) ∷ []) in
-    let h = n .ensures .2 bs (l .inv .4 .1) in
-    let e = sym (c .before .is-ended .ensures) ∙ c .if2 .left in
-    (search needs, search needs, search needs, search needs, (cs, h .going e, λ pass. count-more _ bs _ (l .len) _ _ (l .inv .4 .2 pass) (p .good pass .1) (c .before .before .before .before .wrapping-add-usize .ensures) cs (h .lines e)))
+    let e = block-of (n .result .last) (sym (c .before .before .before .before .before .before .before .before .before .before .before .before .before .before .has-failed .ensures) ∙ c .before .before .before .before .before .before .before .before .before .before .before .before .before .if1 .left) (sym (c .before .is-ended .ensures) ∙ c .if3 .left) in
+    (search needs, search needs, search needs, search needs, search needs, (cs, h .going e, printed-more _ _ bs _ (l .output) _ _ (l .inv .5 .2) p (rows-append _ _) cs (h .lines e) (sym (c .before .before .before .has-failed2 .ensures) ∙ c .before .before .if2 .left)))
 
 pub answer-input-spec : {M : Type 1} → statement M
 answer-input-spec =
@@ -126,21 +163,30 @@ answer-input-spec =
     Inv-loop
     μ-loop
     begin-requires
+    begin-requires-2
     loop-holds
     next-requires
+    has-failed-requires
+    same-length
+    same-length-2
+    same-length-3
+    same-length-4
+    returns
     whole-requires
     slice-reshare-prefix-print-rows
     slice-aggregate-print-rows
     print-rows-requires
-    wrapping-add-usize-requires
-    same-length
-    same-length-2
-    same-length-3
-    returns
-    is-ended-requires
-    same-length-4
+    has-failed-requires-2
     same-length-5
     same-length-6
+    same-length-7
+    same-length-8
     returns-2
+    is-ended-requires
+    same-length-9
+    same-length-10
+    same-length-11
+    same-length-12
+    returns-3
     loop-less
     loop-again)

@@ -1,0 +1,13 @@
+-- What some numbers mean in a row, computed: reading's number, and that of minimising. Assumes nothing.
+use mathlib.Core.Path.{_≡_, refl}
+use mathlib.Core.List.{[], _∷_}
+use Rattle.standard.specs.Tag.{text}
+use Rattle.tsv.specs.Fields.{digitsOnto, decimal}
+use Rattle.meaning.specs.Meaning.{meaningOf}
+use Rattle.inspect_rows.specs.Rows.{keyText, meantText}
+
+pub meanings :
+    meantText 0 0 ∷ meantText 0 8 ∷ meantText 5 5 ∷ []
+    ≡ text "done" ∷ text "as a key 8: no row of the likely table fits it" ∷ text "a subtag that can't stand there" ∷ []
+unfolding meantText keyText meaningOf decimal digitsOnto
+meanings = refl

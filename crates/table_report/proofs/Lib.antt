@@ -1,0 +1,5 @@
+pub mod Counts
+pub mod Judged
+pub mod Recased
+pub mod Written
+pub mod Examples

@@ -1,0 +1,4 @@
+pub mod Cases
+pub mod Faults
+pub mod Words
+pub mod Line
