@@ -19,7 +19,7 @@ pub record Whole (A L : Bytes) (bs : List Bytes) (r : Billed) (ks : Bytes) (cs :
   pub read : Ended bs (r .input)
   pub held : Held A L (lines (together bs)) (r .counts) ks cs
 
--- after the blocks bs the bill was refused, whatever comes after them
+-- the bill of the blocks bs is refused, whatever comes after them; nothing here ties bs to the bytes that were read
 pub record Refused (A L : Bytes) (bs : List Bytes) (r : Billed) (ks : Bytes) (cs : List ℕ) : Type 0 where
   pub read : isFailure (r .input .last) ≡ false
   pub number : r .counts .number ≡ 0 → ⊥
@@ -34,7 +34,7 @@ pub record Text (A L : Bytes) (bs : List Bytes) (r : Made) (block : Bytes) : Typ
   pub read : Ended bs (r .input)
   pub text : take (r .len) block ≡ monthText A L (lines (together bs))
 
--- of a refused bill, whatever comes after the blocks bs
+-- of the refused bill of the blocks bs, whatever comes after them; nothing here ties bs to the bytes that were read
 pub record Refusal (A L : Bytes) (bs : List Bytes) (r : Made) (block : Bytes) : Type 0 where
   pub number : r .number ≡ 0 → ⊥
   pub text : (ms : List Bytes) → take (r .len) block ≡ monthText A L (lines (together (bs ++ ms)))

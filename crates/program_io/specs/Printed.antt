@@ -34,8 +34,8 @@ pub record Unread (rows : List Bytes → Bytes) (bs : List Bytes) (i : Input) (o
   pub printed : o .failed ≡ false
   pub bytes : o .bytes ≡ length (rows (allLines (handedOver [] bs))) % 2 ^ 64
 
--- A write failed among the rows of the piece x that was handed over last: those of the pieces before it were printed, and
--- nothing was read after it.
+-- A write failed among the rows of the piece x, which blocks bs hand over last: those of the pieces before it were printed.
+-- Nothing here ties bs to the bytes that were read.
 pub record Unwritten (rows : List Bytes → Bytes) (bs : List Bytes) (i : Input) (o : Output) : Type 0 where
   pub failed : o .failed ≡ true
   pub pieces : List Bytes
