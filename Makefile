@@ -3,6 +3,7 @@
 #   make                        target/c/libaltazhbey.a, libaltazhbey.so.0 and altazhbey.pc
 #   make install PREFIX=/usr    installs them there (default: /usr/local); DESTDIR=/stage puts the files below /stage
 #   make uninstall              removes what install put, with the same PREFIX and DESTDIR
+#   make clean                  removes what make built; what is proved stays proved
 PREFIX ?= /usr/local
 LIBDIR ?= $(PREFIX)/lib
 INCLUDEDIR ?= $(PREFIX)/include
@@ -16,14 +17,17 @@ endif
 SHARED := libaltazhbey.so.$(firstword $(subst ., ,$(VERSION)))
 OUT := target/c
 
-all: $(OUT)/libaltazhbey.a $(OUT)/$(SHARED) $(OUT)/altazhbey.pc
+all: $(OUT)/altazhbey.pc $(OUT)/libaltazhbey.a $(OUT)/$(SHARED)
 
-# what is proved; a change of any crate asks the prover again, which proves only what changed
+# what is proved; a change of any crate asks the prover again, which proves only what changed. The lock is that of
+# programs.sh, as both let rt prove in target/
 $(OUT)/libaltazhbey.a: crates.txt $(shell find crates -type f -not -path '*/must-fail/*')
-	@mkdir -p $(OUT)
+	@mkdir -p $(OUT) target/programs
 	@echo 'proving the library for C and what it rests on, which takes some minutes the first time' >&2
-	@rt staticlib c_api >$(OUT)/log 2>&1 || { tail -n 20 $(OUT)/log >&2; exit 1; }
-	@cp target/staticlib/libc_api.a $@
+	@exec 9>target/programs/lock; \
+	! command -v flock >/dev/null || flock -n 9 || { echo 'waiting for a program that is being proved' >&2; flock 9; } || exit; \
+	rt staticlib c_api >$(OUT)/log 2>&1 || { tail -n 20 $(OUT)/log >&2; exit 1; }; \
+	cp target/staticlib/libc_api.a $@
 
 $(OUT)/$(SHARED): $(OUT)/libaltazhbey.a
 	$(CC) -shared -Wl,-soname,$(SHARED) -Wl,-z,defs,-z,relro,-z,now $(LDFLAGS) -Wl,--whole-archive $< -Wl,--no-whole-archive -o $@
@@ -31,6 +35,8 @@ $(OUT)/$(SHARED): $(OUT)/libaltazhbey.a
 # made anew each time, since PREFIX is none of its prerequisites
 $(OUT)/altazhbey.pc: altazhbey.pc.in $(HEADER) FORCE
 	@mkdir -p $(OUT)
+	@for path in '$(PREFIX)' '$(LIBDIR)' '$(INCLUDEDIR)'; do case $$path in '' | [!/]* | *[\"\#\$$\&\\\|]*) \
+	    printf 'PREFIX, LIBDIR and INCLUDEDIR must begin with / and have none of " # $$ & \\ |: %s\n' "$$path" >&2; exit 1 ;; esac; done
 	@sed -e 's|@PREFIX@|$(PREFIX)|' -e 's|@LIBDIR@|$(LIBDIR)|' -e 's|@INCLUDEDIR@|$(INCLUDEDIR)|' -e 's|@VERSION@|$(VERSION)|' $< >$@
 
 install: all
@@ -45,6 +51,9 @@ uninstall:
 	rm -f '$(DESTDIR)$(INCLUDEDIR)/altazhbey.h' '$(DESTDIR)$(LIBDIR)/libaltazhbey.a' '$(DESTDIR)$(LIBDIR)/$(SHARED)' \
 	    '$(DESTDIR)$(LIBDIR)/libaltazhbey.so' '$(DESTDIR)$(LIBDIR)/pkgconfig/altazhbey.pc'
 
+clean:
+	rm -rf $(OUT) target/example
+
 FORCE:
-.PHONY: all install uninstall FORCE
+.PHONY: all install uninstall clean FORCE
 .DELETE_ON_ERROR:

@@ -1,5 +1,5 @@
-# What bench/run and bench/count share, sourced in the repository's folder: our programs, the lines that they read, and
-# their counted instructions.
+# What bench/run, bench/count and bench/pipe share, sourced in the repository's folder: our programs, the lines that they
+# read, and their counted instructions.
 out=$PWD/target/bench
 identifiers=$PWD/bench/identifiers.txt
 tables=$PWD/tables
@@ -33,10 +33,12 @@ build_keys() {
     rt check keys bill && write_lines
 }
 
+valgrind_ready() { command -v valgrind >/dev/null || install valgrind; }
+
 # ours_ready: builds them all, into `ready`; one that is missing is a failure.
 ready=()
 ours_ready() {
-    command -v valgrind >/dev/null || install valgrind
+    valgrind_ready
     for each in ours c_api keys; do
         if built "$each"; then ready+=("$each"); else failed=1; fi
     done
@@ -59,12 +61,12 @@ counts=$out/counts
 
 # The length of a program's path, of its folder's and of the environment moves the stack, and by that how memcpy and memset
 # go about it: all is counted in a folder whose path has one length wherever the repository is, with no environment.
+# place_for_counts PROGRAM..: makes that folder, with these programs, the tables and the identifiers.
 place_for_counts() {
     rm -rf "$counts"
     place=$(mktemp -d /tmp/altazhbey.XXXXXX) && trap 'rm -rf "$place"' EXIT &&
         mkdir -p "$counts" "$place/bench" "$place/tables" && cp tables/*.tsv "$place/tables" &&
-        cp bench/identifiers.txt bench/long.txt "$place/bench" &&
-        cp "$out/ours" "$out/c_api" target/bin/keys target/bin/bill "$place"
+        cp bench/identifiers.txt bench/long.txt "$place/bench" && cp "$@" "$place"
 }
 
 # counted OUTPUT FOLDER PROGRAM..: runs it in that folder under callgrind, which writes to the output. Names are bound at
@@ -81,14 +83,22 @@ count_rows() {
     counted "$1" . "$1" --count "${@:2}" && python3 bench/counts.py "$counts/$1" >>"$out/counted.tsv"
 }
 
-# count_line ROW PROGRAM: instructions a line: of 40,000 lines less of 20,000, which takes start and tables away.
-count_line() {
+# instructions_a_line FEED ROW PROGRAM: of 40,000 lines less of 20,000, which takes start and tables away. `FEED FILE
+# COMMAND..` runs the command with the file as its input.
+instructions_a_line() {
     for many in 20000 40000; do
-        head -n "$many" "$out/$1" >"$counts/lines"
-        counted "line.$many" tables "$2" <"$counts/lines" || return
+        head -n "$many" "$out/$2" >"$counts/lines"
+        "$1" "$counts/lines" counted "line.$many" tables "$3" || return
     done
-    awk -v row="$1" '/^summary:/ { less = more; more = $2 } END { printf "%s\t%.1f\n", row, (more - less) / 20000 }' \
-        "$counts/line.20000" "$counts/line.40000" >>"$out/counted.tsv"
+    awk '/^summary:/ { less = more; more = $2 } END { printf "%.1f\n", (more - less) / 20000 }' \
+        "$counts/line.20000" "$counts/line.40000"
+}
+from_file() { "${@:2}" <"$1"; }
+
+# count_line ROW PROGRAM: the row's instructions a line.
+count_line() {
+    local found
+    found=$(instructions_a_line from_file "$@") && printf '%s\t%s\n' "$1" "$found" >>"$out/counted.tsv"
 }
 
 count_ours() { count_rows ours bench/identifiers.txt; }
@@ -104,7 +114,8 @@ count_keys() {
 # do. What cannot be counted is a failure.
 count() {
     : >"$out/counted.tsv"
-    { [ "$failed" -eq 0 ] && place_for_counts; } || { echo 'nothing is counted' >&2; failed=1; return; }
+    { [ "$failed" -eq 0 ] && place_for_counts "$out/ours" "$out/c_api" target/bin/keys target/bin/bill; } ||
+        { echo 'nothing is counted' >&2; failed=1; return; }
     for each in ours c_api keys; do
         echo "counting $each" >&2
         "count_$each" || { echo "$each: not counted" >&2; failed=1; }

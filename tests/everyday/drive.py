@@ -3,6 +3,8 @@
 import contextlib
 import fcntl
 import os
+import re
+import selectors
 import shutil
 import signal
 import struct
@@ -61,14 +63,25 @@ def printed(program):
     return HEADERS[program] + ROWS[program]
 
 
+def line(program, text):
+    """A line of the wrapper on standard error: control bytes, as names may have, are shown as \\xNN."""
+    safe = re.sub(rb"[\x00-\x1f\x7f]", lambda byte: b"\\x%02X" % byte[0][0], text.encode())
+    return f"{program}: ".encode() + safe + b"\n"
+
+
 def in_tables(program, folder=TABLES):
     """The line that says which tables are used."""
-    return f"{program}: tables in {folder}\n".encode()
+    return line(program, f"tables in {folder}")
 
 
 def said(program, what, error):
     """The line of a failure, in the system's words."""
     return f"{program}: {what}: {os.strerror(error)}\n".encode()
+
+
+def refused_tables(program, meaning):
+    """The line of refused tables, in words; tables_check prints them."""
+    return b"" if program == "tables_check" else f"{program}: the tables are refused: {meaning}; tables_check shows where\n".encode()
 
 
 def first_lines(program):
@@ -112,9 +125,20 @@ def ends(name, ran, status=0, out=None, err=None):
     check(name, wrong)
 
 
+def usage(program):
+    """The line behind a refusal of wrong usage."""
+    what = "[DIR | --tables DIR]" if program == "tables_check" else "[--tables DIR] [FILE ..]"
+    return f"usage: {program} {what} | --help | --version\n".encode()
+
+
 def has(*texts):
     """A test of output: each of the texts stands in it."""
     return lambda got: "".join(f"no {text!r} " for text in texts if text not in got)
+
+
+def named(program):
+    """A test of standard error: each line has the program's name in front."""
+    return lambda got: "".join(f"a line {line!r} " for line in got.splitlines() if not line.startswith(f"{program}: ".encode()))
 
 
 def count():
@@ -248,6 +272,23 @@ def session(process, command=""):
             if int(of) == process.pid and state != "Z" and first.endswith(command):
                 found.append(int(path.name))
     return found
+
+
+def mounted(mount, place, *command, **options):
+    """Runs a command in a place over which something is mounted for it alone; nothing where that can't be done."""
+    script = mount + ' || exit 99; shift; exec "$@"'
+    ran = finish(start(["unshare", "-rm", "bash", "-c", script, "bash", place, *command], **options))
+    return None if ran.status == 99 or ran.err.startswith(b"unshare: ") else ran
+
+
+def shown_by(terminal, done, seconds):
+    """What a terminal shows until it is done, ends, or shows nothing for some seconds."""
+    seen = b""
+    with contextlib.suppress(OSError), selectors.DefaultSelector() as selector:
+        selector.register(terminal, selectors.EVENT_READ)
+        while not done(seen) and selector.select(seconds):
+            seen += os.read(terminal, 4096)
+    return seen
 
 
 def unread(fd):

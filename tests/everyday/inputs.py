@@ -41,12 +41,18 @@ def directory(program):
     os.close(fd)
     drive.ends(f"{program}: input is a directory", ran, 1, without_rows(program), failure(program, errno.EISDIR))
     ran = drive.run(program, drive.work)
-    drive.ends(f"{program}: a directory as FILE", ran, 1, without_rows(program), failure(program, errno.EISDIR))
+    drive.ends(f"{program}: a directory as FILE", ran, 2, b"", drive.said(program, drive.work, errno.EISDIR) + drive.usage(program))
 
 
 def closed(program):
     ran = drive.run_from(None, program, closed=[0])
     drive.ends(f"{program}: input is closed", ran, 1, without_rows(program), failure(program, errno.EBADF))
+    place = drive.folder("closed", {"lines": LINES[program]})
+    (place / "link").symlink_to("/dev/stdin")
+    for names in (["/dev/stdin"], ["/dev/fd/0"], ["link"], ["/dev/stdin", "lines"], ["lines", "/dev/stdin"]):
+        ran = drive.run_from(None, program, *names, cwd=place, closed=[0])
+        name = next(name for name in names if name != "lines")
+        drive.ends(f"{program} {' '.join(names)}, input is closed", ran, 1, b"", drive.said(program, name, errno.EBADF))
 
 
 def write_only(program):

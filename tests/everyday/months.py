@@ -9,6 +9,8 @@ MARK = b"\xef\xbb\xbf"
 NO_TAB = b"no tab between member and identifier"
 NO_NUMBER = b"the member is no number"
 BYTE = b"a byte that is no letter, digit, - or _"
+MANY_KEYS = b"bill: the bill is refused: over 512 keys\n"
+MANY_LINES = b"bill: the bill is refused: over 1,000,000 lines\n"
 
 
 def bill_of(rows, refused):
@@ -49,7 +51,7 @@ def many_lines():
     ran = drive.run("refused", data=lines)
     drive.ends("refused: 2,000,000 lines", ran, 0, HEADERS["refused"] + row, drive.in_tables("refused"))
     ran = drive.run("bill", data=lines[: 5 * 1_000_001])
-    drive.ends("bill: 1,000,001 lines", ran, 3, b"18\n", drive.in_tables("bill"))
+    drive.ends("bill: 1,000,001 lines", ran, 3, b"18\n", drive.in_tables("bill") + MANY_LINES)
     ran = drive.run("bill", data=lines[: 5 * 1_000_000])
     drive.ends("bill: 1,000,000 lines", ran, 0, bill_of(b"en\t1\t1000000\n", 0), drive.in_tables("bill"))
 
@@ -87,12 +89,18 @@ def members():
 
 
 def spreadsheets():
-    """What a spreadsheet writes: a byte order mark, CR LF, UTF-16. Each is said, and each is refused as the rules have it."""
+    """What a spreadsheet writes: a byte order mark, CR LF, CR, UTF-16. Each is said, and each is refused as the rules have it."""
     mark = "the input begins with a byte order mark"
     rows = b"1\t\\xEF\\xBB\\xBF1\t-\t0\ten\t" + NO_NUMBER + b"\n"
     month("a byte order mark", MARK + b"1\ten\n2\ten\n", bill_of(b"en\t1\t1\n", 1), rows, mark)
     rows = b"1\t1\t3\t4\ten\\x0D\t" + BYTE + b"\n2\t2\t3\t4\ten\\x0D\t" + BYTE + b"\n"
     month("CR LF", b"1\ten\r\n2\ten\r\n", bill_of(b"", 2), rows, "the lines end in CR LF")
+    marked = b"1\t\\xEF\\xBB\\xBF1\t-\t0\ten\\x0D\t" + NO_NUMBER + b"\n2\t2\t3\t4\ten\\x0D\t" + BYTE + b"\n"
+    month("a byte order mark and CR LF", MARK + b"1\ten\r\n2\ten\r\n", bill_of(b"", 2), marked, mark + ", and its lines end in CR LF")
+    rows = b"1\t1\t3\t4\ten\\x0D2\\x09de\\x0D\t" + BYTE + b"\n"
+    month("CR", b"1\ten\r2\tde\r", bill_of(b"", 1), rows, "the first line has CR in it, as where lines end in CR alone")
+    rows = b"1\t\\xEF\\xBB\\xBF1\t-\t0\ten\\x0D2\\x09de\t" + NO_NUMBER + b"\n"
+    month("a byte order mark and CR", MARK + b"1\ten\r2\tde", bill_of(b"", 1), rows, mark + ", and its first line has CR in it")
     rows = b"2\t2\t3\t4\ten\\x0D\t" + BYTE + b"\n"
     month("CR LF in the second line alone", b"1\ten\n2\ten\r\n", bill_of(b"en\t1\t1\n", 1), rows)
     for coding in ("utf-16-le", "utf-16-be", "utf-16"):
@@ -112,14 +120,14 @@ def own_keys(many):
     return "".join(f"1\tq{a}{b}-Latn-US\n" for a, b in names).encode()
 
 
-def stops(name, program, first, out, arguments=()):
+def stops(name, program, first, out, err, arguments=()):
     """A refused run ends though 50 MB more wait: who feeds it finds the pipe closed, soon after what was refused."""
     process = drive.start([ROOT / program, *arguments], stdin=-1)
     drive.feed(process, itertools.chain([first], itertools.repeat(b"1\ten\n" * 1000, 10_000)))
     ran = drive.finish(process)
     process.feeder.join(drive.BOUND)
     more = process.fed - len(first)
-    drive.ends(f"{program}: {name}", ran, 3, out)
+    drive.ends(f"{program}: {name}", ran, 3, out, err)
     wrong = ["its feeder still writes"] if process.feeder.is_alive() else []
     if more > 4_000_000:
         wrong.append(f"{more} bytes were read behind what was refused")
@@ -127,12 +135,13 @@ def stops(name, program, first, out, arguments=()):
 
 
 def stopped():
-    stops("513 keys", "bill", own_keys(513), b"17\n")
-    stops("1,000,001 lines", "bill", b"1\ten\n" * 1_000_001, b"18\n")
+    stops("513 keys", "bill", own_keys(513), b"17\n", drive.in_tables("bill") + MANY_KEYS)
+    stops("1,000,001 lines", "bill", b"1\ten\n" * 1_000_001, b"18\n", drive.in_tables("bill") + MANY_LINES)
     bad = drive.folder("bad", {"aliases.tsv": b"x\n", "likely.tsv": b""})
     for program in ("bill", "keys", "refused"):
         header = b"" if program == "bill" else HEADERS[program]
-        stops("bad tables", program, b"1\ten\n", header + b"table\t12\t1\t0\n", ("--tables", bad))
+        err = drive.in_tables(program, bad) + drive.refused_tables(program, "a row of wrong shape")
+        stops("bad tables", program, b"1\ten\n", header + b"table\t12\t1\t0\n", err, ("--tables", bad))
 
 
 def checks():

@@ -39,6 +39,21 @@ def closed(program):
     drive.ends(f"{program}: output is closed", ran, 1, b"", failure(program, errno.EBADF))
 
 
+def texts(program):
+    """--help and --version to an output that fails, and to a pipe that nobody reads."""
+    for option in ("--help", "--version"):
+        ran = drive.run(program, option, stdout=None, closed=[1])
+        drive.ends(f"{program} {option}, output is closed", ran, 1, b"", drive.said(program, "standard output", errno.EBADF))
+        with open("/dev/full", "wb") as device:
+            ran = drive.run(program, option, stdout=device)
+        drive.ends(f"{program} {option} to /dev/full", ran, 1, b"", drive.said(program, "standard output", errno.ENOSPC))
+        ours, theirs = os.pipe()
+        os.close(ours)
+        ran = drive.run(program, option, stdout=theirs)
+        os.close(theirs)
+        drive.ends(f"{program} {option} to a broken pipe", ran._replace(status=abs(ran.status) % 128), int(signal.SIGPIPE), b"", b"")
+
+
 def both_closed(program):
     """Neither a table nor anything else gets the numbers of closed descriptors."""
     first = failure(program, errno.EBADF)
@@ -150,7 +165,7 @@ def unready(program):
 
 def checks():
     for program in PROGRAMS:
-        for each in (full, closed, both_closed, no_error, broken):
+        for each in (full, closed, texts, both_closed, no_error, broken):
             each(program)
     head()
     cut_bill()

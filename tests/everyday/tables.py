@@ -136,19 +136,20 @@ def forbidden(program):
 def refused(program):
     """Bad tables are refused with 3, and what is printed is the table's line."""
     rows = {
-        "aliases": (b"language\tiw\n", b"table\t12\t1\t0", b"\t1\tlanguage\\x09iw\ta row of wrong shape: a tab too few"),
-        "likely": (b"en\ten-Latn-US\nde\tde-Latn-DE\n", b"table\t13\t2\t14", b"\t2\tde\\x09de-Latn-DE\ta row not above the one before: not in byte order"),
-        "parents": (b"a" * 32769, b"table\t11\t3\t0", b"\t0\t-\ta table over 32,768 bytes"),
+        "aliases": (b"language\tiw\n", b"table\t12\t1\t0", b"\t1\tlanguage\\x09iw\t", "a row of wrong shape", b": a tab too few"),
+        "likely": (b"en\ten-Latn-US\nde\tde-Latn-DE\n", b"table\t13\t2\t14", b"\t2\tde\\x09de-Latn-DE\t", "a row not above the one before", b": not in byte order"),
+        "parents": (b"a" * 32769, b"table\t11\t3\t0", b"\t0\t-\t", "a table over 32,768 bytes", b""),
     }
     for table in NAMES[program]:
-        data, verdict, words = rows[table]
+        data, verdict, row, meaning, more = rows[table]
         folder = good_folder("refused")
         (folder / f"{table}.tsv").write_bytes(data)
         for name, lines in (("", LINES[program]), (", no input", b"")):
             ran = drive.run(program, "--tables", folder, data=lines)
             header = b"" if program in ("bill", "tables_check") else HEADERS[program]
-            line = verdict + (words if program == "tables_check" else b"") + b"\n"
-            drive.ends(f"{program}: bad {table}.tsv{name}", ran, 3, header + line, drive.in_tables(program, folder))
+            line = verdict + (row + meaning.encode() + more if program == "tables_check" else b"") + b"\n"
+            err = drive.in_tables(program, folder) + drive.refused_tables(program, meaning)
+            drive.ends(f"{program}: bad {table}.tsv{name}", ran, 3, header + line, err)
 
 
 def places():
@@ -174,8 +175,27 @@ def places():
     drive.ends("inspect beside parents.tsv alone uses no tables", ran, 0, drive.printed("inspect"), b"")
 
 
+def alone():
+    """What inspect does beside one table that can't be opened: one that is there is named, a link that leads nowhere is none."""
+    for table, other in (("aliases", "likely"), ("likely", "aliases")):
+        folder = drive.folder("socket", {})
+        socket_at(folder / f"{table}.tsv")
+        errors = {table: errno.ENXIO, other: errno.ENOENT}
+        lines = b"".join(drive.said("inspect", f"{each}.tsv counts as zero bytes", errors[each]) for each in ("aliases", "likely"))
+        for options, arguments in (({"cwd": folder}, ()), ({}, ("--tables", folder))):
+            ran = drive.run("inspect", *arguments, data=LINES["inspect"], **options)
+            want = HEADERS["inspect"] + WITHOUT["inspect", table]
+            drive.ends(f"inspect: {table}.tsv alone, a socket", ran, 0, want, drive.in_tables("inspect", folder) + lines)
+        for where in ("nothing", f"{table}.tsv"):
+            folder = drive.folder("link", {})
+            (folder / f"{table}.tsv").symlink_to(where)
+            ran = drive.run("inspect", data=LINES["inspect"], cwd=folder)
+            drive.ends(f"inspect: {table}.tsv alone, a link to {where}", ran, 0, drive.printed("inspect"), f"inspect: no tables in {folder}\n".encode())
+
+
 def checks():
     for program in PROGRAMS:
         for each in (can_be_used, not_opened, not_read, cut_off, forbidden, refused):
             each(program)
     places()
+    alone()

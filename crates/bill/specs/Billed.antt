@@ -1,27 +1,33 @@
 -- What a run of the program read and billed. Assumes nothing.
 use mathlib.Core.Path.{_≡_}
-use mathlib.Core.Bool.{false}
 use mathlib.Core.Logic.{_⊎_}
-use mathlib.Core.List.{List, _++_}
+use mathlib.Core.List.{List, [], _∷_, _++_}
 use Prim.Native.Nat.{ℕ}
-use lib.ListN.{take}
 use Rattle.standard.specs.Delivery.{Bytes}
 use Rattle.table.specs.Lines.{lines}
-use Rattle.lines.specs.Squeeze.{together}
-use Rattle.program_io.specs.Handed.{isFailure, Ended, Broken}
+use Rattle.lines.specs.Squeeze.{handedOver, allLines, together}
+use Rattle.program_io.specs.declared.input.Input.{Input}
+use Rattle.program_io.specs.Handed.{Read, Ended, Broken}
 use Rattle.bill_lines.specs.Held.{Held}
-use Rattle.bill_lines.specs.Text.{monthText}
+use Rattle.bill_lines.specs.Text.{monthText, monthNumber}
 use Rattle.bill.specs.declared.Billed.{Billed}
-use Rattle.bill.specs.declared.Made.{Made}
 
 -- the input was the blocks bs, read to its end, and the bill is that of its lines
 pub record Whole (A L : Bytes) (bs : List Bytes) (r : Billed) (ks : Bytes) (cs : List ℕ) : Type 0 where
   pub read : Ended bs (r .input)
   pub held : Held A L (lines (together bs)) (r .counts) ks cs
 
--- the bill of the blocks bs is refused, whatever comes after them; nothing here ties bs to the bytes that were read
+-- the last of the blocks bs was needed: of the lines that those before it hand over the bill is not refused
+pub record Needed (A L : Bytes) (bs : List Bytes) : Type 0 where
+  pub before : List Bytes
+  pub block : Bytes
+  pub last : bs ≡ before ++ (block ∷ [])
+  pub unrefused : monthNumber A L (allLines (handedOver [] before)) ≡ 0
+
+-- the blocks bs were read, and no more: their bill is refused, whatever comes after them
 pub record Refused (A L : Bytes) (bs : List Bytes) (r : Billed) (ks : Bytes) (cs : List ℕ) : Type 0 where
-  pub read : isFailure (r .input .last) ≡ false
+  pub read : Read bs (r .input)
+  pub needed : Needed A L bs
   pub number : r .counts .number ≡ 0 → ⊥
   pub held : (ms : List Bytes) → Held A L (lines (together (bs ++ ms))) (r .counts) ks cs
 
@@ -29,21 +35,26 @@ pub record Refused (A L : Bytes) (bs : List Bytes) (r : Billed) (ks : Bytes) (cs
 unfoldable pub Bills : Bytes → Bytes → List Bytes → Billed → Bytes → List ℕ → Type 0
 Bills A L bs r ks cs = Whole A L bs r ks cs ⊎ (Refused A L bs r ks cs ⊎ Broken bs (r .input))
 
--- the text of the bill at the front of the block, of the whole input
-pub record Text (A L : Bytes) (bs : List Bytes) (r : Made) (block : Bytes) : Type 0 where
-  pub read : Ended bs (r .input)
-  pub text : take (r .len) block ≡ monthText A L (lines (together bs))
+-- What `says` holds of, the text of the bill: of the whole input, with its number.
+pub record Text (A L : Bytes) (bs : List Bytes) (n : ℕ) (i : Input) (says : Bytes → Type 0) : Type 0 where
+  pub read : Ended bs i
+  pub number : n ≡ monthNumber A L (lines (together bs))
+  pub text : says (monthText A L (lines (together bs)))
 
--- of the refused bill of the blocks bs, whatever comes after them; nothing here ties bs to the bytes that were read
-pub record Refusal (A L : Bytes) (bs : List Bytes) (r : Made) (block : Bytes) : Type 0 where
-  pub number : r .number ≡ 0 → ⊥
-  pub text : (ms : List Bytes) → take (r .len) block ≡ monthText A L (lines (together (bs ++ ms)))
+-- Of a refused one, that of the blocks bs, whatever comes after them; no more was read, and nothing over bad tables.
+pub record Refusal (A L : Bytes) (bs : List Bytes) (n : ℕ) (i : Input) (says : Bytes → Type 0) : Type 0 where
+  pub read : Read bs i
+  pub needed : (bs ≡ []) ⊎ Needed A L bs
+  pub refused : n ≡ 0 → ⊥
+  pub number : (ms : List Bytes) → n ≡ monthNumber A L (lines (together (bs ++ ms)))
+  pub text : (ms : List Bytes) → says (monthText A L (lines (together (bs ++ ms))))
 
--- no text, since reading failed after the blocks bs
-pub record Nothing (bs : List Bytes) (r : Made) : Type 0 where
-  pub read : Broken bs (r .input)
-  pub none : r .len ≡ 0
+-- No text, since reading failed after the blocks bs.
+pub record Nothing (bs : List Bytes) (n : ℕ) (i : Input) (says : Bytes → Type 0) : Type 0 where
+  pub read : Broken bs i
+  pub number : n ≡ 0
+  pub text : says []
 
 -- one of these
-unfoldable pub Makes : Bytes → Bytes → List Bytes → Made → Bytes → Type 0
-Makes A L bs r block = Text A L bs r block ⊎ (Refusal A L bs r block ⊎ Nothing bs r)
+unfoldable pub Makes : Bytes → Bytes → List Bytes → ℕ → Input → (Bytes → Type 0) → Type 0
+Makes A L bs n i says = Text A L bs n i says ⊎ (Refusal A L bs n i says ⊎ Nothing bs n i says)

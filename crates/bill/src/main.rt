@@ -1,10 +1,11 @@
 // Opens aliases.tsv and likely.tsv in the current folder, reads usage lines from standard input (a member, a tab and an
 // identifier), and prints the bill. Bytes after the last 0A are a line unless there are none. A bill whose input could not
-// be read to its end is not printed; a refused one reads no further. A failure is said on standard error, and so is an input
-// that is not written plainly.
+// be read to its end is not printed; a refused one reads no further. What failed, why a bill is refused, and how an input is
+// written that is not plain lines, is said on standard error.
 use bill_lines::Counts;
 use bill_lines::add_hinted;
 use canonical::buffer::buffer;
+use program_io::Run;
 use program_io::Status;
 use program_io::finish;
 use program_io::input;
@@ -12,19 +13,21 @@ use program_io::input::Input;
 use program_io::load_table;
 use program_io::output;
 use program_io::status_of;
+use program_io::warning::say_bill;
 use program_io::warning::say_encoding;
 use table::hints::fill_hints;
 use table::hints::many;
 ghost use mathlib.Core.Path.{_≡_};
 ghost use mathlib.Core.List.{List, []};
 ghost use Prim.Native.Nat.{_≤_};
-ghost use lib.ListN.{length};
+ghost use lib.ListN.{length, take};
 ghost use Rattle.io.specs.Counts.{Counts as Within};
 ghost use Rattle.standard.specs.Delivery.{Bytes};
 ghost use Rattle.table.specs.Hints.{Hinted};
 ghost use Rattle.operations.specs.Both.{TestedBoth};
 ghost use Rattle.bill_lines.specs.Held.{Held};
 ghost use Rattle.program_io.specs.Handed.{Room};
+ghost use Rattle.program_io.specs.Printed.{IsPrinted};
 ghost use Rattle.bill.specs.Billed.{Bills, Makes};
 
 // The counts of the bill, and the input as it was read.
@@ -151,7 +154,7 @@ fn take_tested(
 fn make_text(aliases: &[u8], likely: &[u8], block: &mut [u8]) -> Made
     requires { ⌜ (65536 ≤ length (now block)) × (length (now block) ≤ 262144) ⌝ }
     ensures { λ r. let block′ = now (block .exit) in let aliases = now (aliases .entry) in let likely = now (likely .entry) in
-        ⌜ Within (r .len) block′ × ((bs : List Bytes) × Makes aliases likely bs r block′) ⌝ }
+        ⌜ Within (r .len) block′ × ((bs : List Bytes) × Makes aliases likely bs (r .number) (r .input) (λ text. take (r .len) block′ ≡ text)) ⌝ }
 {
     let mut keys = key_room();
     let mut counts = count_room();
@@ -182,16 +185,22 @@ fn make_text(aliases: &[u8], likely: &[u8], block: &mut [u8]) -> Made
     }
 }
 
-// Makes the bill and prints it.
-fn run(aliases: &[u8], likely: &[u8]) -> Status {
+// Makes the bill and prints it; that it is refused is said.
+fn run(aliases: &[u8], likely: &[u8]) -> Run
+    ensures { λ r. ⌜ ((bs : List Bytes) × Makes (now (aliases .entry)) (now (likely .entry)) bs (r .number) (r .input) (IsPrinted (r .output))) ⌝ }
+{
     let mut block = input::block_buffer();
     let m = make_text(aliases, likely, &mut block);
+    let number = m.number;
+    let input = m.input;
     let len = m.len;
-    let o = output::print(output::begin(), &block[..len]);
-    if m.number != 0 {
-        return program_io::refused(b"bill", o);
+    let output = output::print(output::begin(), &block[..len]);
+    say_bill(b"bill", number);
+    Run {
+        number,
+        input,
+        output,
     }
-    status_of(b"bill", m.input, o)
 }
 
 fn main() {
@@ -207,5 +216,6 @@ fn main() {
     }
     let a_len = x.len;
     let l_len = y.len;
-    finish(run(&a[..a_len], &l[..l_len]))
+    let r = run(&a[..a_len], &l[..l_len]);
+    finish(status_of(b"bill", r))
 }

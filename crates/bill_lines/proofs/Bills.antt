@@ -25,7 +25,7 @@ use Rattle.bill_ledger.proofs.Members.{Member, marks-counted}
 use Rattle.bill_lines.specs.declared.Counts.{Counts}
 use Rattle.bill_lines.specs.State.{only, Going, Good}
 use Rattle.bill_lines.specs.Held.{faulted, Held}
-use Rattle.bill_lines.specs.Text.{header, rowText, rowsText, lastText, billText, afterTables, monthText, entryText, entriesText, countsText, writtenText}
+use Rattle.bill_lines.specs.Text.{header, rowText, rowsText, lastText, billText, afterTables, monthText, billNumber, numberAfter, monthNumber, entryText, entriesText, countsText, writtenText}
 use Rattle.bill_lines.proofs.Usages.{member-range}
 use Rattle.bill_lines.proofs.Goings.{back-reordered}
 
@@ -67,16 +67,24 @@ within : (T : Tables) (ls : List Bytes) → length ls ≤ 1000000 → length (ke
 unfolding billOf mostKeys mostLines
 within T ls h k = rw (take-all 1000000 ls h, le-ltb 512 (length (keysOf (usages T ls))) k, le-ltb 1000000 (length ls) h)
 
-going-text : (T : Tables) (ls : List Bytes) (c : Counts) (ks : Bytes) (cs : List ℕ) → Going T ls c ks cs → header ++ (entriesText (entriesFrom ks cs 0 (c .keys)) ++ lastText (c .refused)) ≡ billText (billOf T ls)
-unfolding billText entriesOf mostLines
-going-text T ls c ks cs g =
+-- the bill of lines that were not refused so far
+going-bill : (T : Tables) (ls : List Bytes) (c : Counts) (ks : Bytes) (cs : List ℕ) → Going T ls c ks cs
+    → (let us = usages T (reverseAux ls []) in billOf T ls ≡ bill (map (rowOf us) (keysOf us)) (refusals T (reverseAux ls [])))
+unfolding entriesOf mostLines
+going-bill T ls c ks cs g =
     let ms = reverseAux ls [] in
     let us = usages T ms in
     let r = back-reordered ls in
     let n : length ms ≤ 1000000 = (let z = length-order r in omega (arith, z, g .lines, g .most-lines)) in
     let k : length (keysOf us) ≡ c .keys = sym (entries-length us) ∙ sym (ap length (g .entries)) ∙ length-entries ks cs 0 (c .keys) in
-    let b : billOf T ls ≡ bill (map (rowOf us) (keysOf us)) (refusals T ms) = sym (any-order T ms ls r n) ∙ within T ms n (omega (arith, k, g .most-keys)) in
-    ap₂ (λ (x : Bytes) (m : ℕ). header ++ (x ++ lastText m)) (ap entriesText (g .entries) ∙ entries-print us (keysOf us) (all-members T ms)) (g .refused ∙ sym (refusals-order T r)) ∙ sym (ap billText b)
+    sym (any-order T ms ls r n) ∙ within T ms n (omega (arith, k, g .most-keys))
+
+going-text : (T : Tables) (ls : List Bytes) (c : Counts) (ks : Bytes) (cs : List ℕ) → Going T ls c ks cs → header ++ (entriesText (entriesFrom ks cs 0 (c .keys)) ++ lastText (c .refused)) ≡ billText (billOf T ls)
+unfolding billText entriesOf
+going-text T ls c ks cs g =
+    let ms = reverseAux ls [] in
+    let us = usages T ms in
+    ap₂ (λ (x : Bytes) (m : ℕ). header ++ (x ++ lastText m)) (ap entriesText (g .entries) ∙ entries-print us (keysOf us) (all-members T ms)) (g .refused ∙ sym (refusals-order T (back-reordered ls))) ∙ sym (ap billText (going-bill T ls c ks cs g))
 
 -- the counts' text, by their number
 module _ (c : Counts) (ks : Bytes) (cs : List ℕ) where
@@ -109,6 +117,20 @@ held-text A L ls c ks cs h = go (check toMaximise A L []) refl (check-within toM
         let n = h .bad f e in
         let y : c .number ≡ f .fault .number = ap (λ (x : Counts). x .number) n in
         text-table c ks cs (λ (z : c .number ≡ 0). omega (arith, w .0, y, z)) (omega (arith, w .1, y)) ∙ ap (λ (x : Counts). tableText (x .number) (x .place) (x .table)) n
+
+good-number : (T : Tables) (ls : List Bytes) (c : Counts) (ks : Bytes) (cs : List ℕ) → Good T ls c ks cs → c .number ≡ billNumber (billOf T ls)
+unfolding Good billNumber
+good-number T ls c ks cs (inl g) = g .number ∙ sym (ap billNumber (going-bill T ls c ks cs g))
+good-number T ls c ks cs (inr s) = sym (ap billNumber (ap (billOf T) (sym (append-nil ls)) ∙ s .bill []))
+
+-- the counts' number is that of the bill of the lines taken
+pub held-number : (A L : Bytes) (ls : List Bytes) (c : Counts) (ks : Bytes) (cs : List ℕ) → Held A L ls c ks cs → c .number ≡ monthNumber A L ls
+unfolding monthNumber numberAfter faulted only
+held-number A L ls c ks cs h = go (check toMaximise A L []) refl
+  where
+    go : (o : Option TableFault) → check toMaximise A L [] ≡ o → c .number ≡ numberAfter o (billNumber (billOf (tablesOf A L []) ls))
+    go none e = good-number (tablesOf A L []) ls c ks cs (h .good e)
+    go (some f) e = ap (λ (x : Counts). x .number) (h .bad f e)
 
 -- what is written
 module _ (c : Counts) (ks : Bytes) (cs : List ℕ) (room : ℕ) where

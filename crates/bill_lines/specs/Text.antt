@@ -44,6 +44,19 @@ afterTables (some f) x = tableText (f .fault .number) (f .fault .place) (f .tabl
 unfoldable pub monthText : Bytes → Bytes → List Bytes → Bytes
 monthText A L ls = afterTables (check toMaximise A L []) (billText (billOf (tablesOf A L []) ls))
 
+-- 02, T-01: the number of a bill that is refused; else 0
+unfoldable pub billNumber : Bill → ℕ
+billNumber (bill rs n) = 0
+billNumber (refusedWith n) = n
+
+-- that of bad tables comes first
+unfoldable pub numberAfter : Option TableFault → ℕ → ℕ
+numberAfter none n = n
+numberAfter (some f) n = f .fault .number
+
+unfoldable pub monthNumber : Bytes → Bytes → List Bytes → ℕ
+monthNumber A L ls = numberAfter (check toMaximise A L []) (billNumber (billOf (tablesOf A L []) ls))
+
 -- the rows of entries, as the code has them
 unfoldable pub entryText : Entry → Bytes
 entryText e = field (e .key) 9 ++ (field (decimal (ones (e .marks))) 9 ++ field (decimal (e .deliveries)) 10)

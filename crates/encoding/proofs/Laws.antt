@@ -4,12 +4,13 @@ use mathlib.Core.Bool.{Bool, true, false, cond, _&&_, _||_}
 use mathlib.Core.List.{[], _∷_}
 use Prim.Native.Nat.{ℕ, suc, _-_, _≤_, _<_}
 use native.Mathlib.Omega.{arith}
-use lib.Dec.{eqb}
+use lib.Dec.{eqb, ltb}
 use lib.ListN.{length, getD}
 use borrow.Author.Tests.{eq-eqb, ne-eqb}
 use Rattle.byte_string.specs.Strings.{endOf}
-use Rattle.encoding.specs.declared.Encoding.the-variants.{Plain, ByteOrderMark, Utf16, CarriageReturn}
-use Rattle.encoding.specs.Encodings.{Bytes, marked, widePair, wide, behindReturn, endsInReturn, encodingOf}
+use Rattle.encoding.specs.declared.Front.the-variants.{Plain, ByteOrderMark, Utf16}
+use Rattle.encoding.specs.declared.Ending.the-variants.{Lf, CrLf, Cr}
+use Rattle.encoding.specs.Encodings.{Bytes, marked, widePair, wide, frontOf, behindReturn, endsInReturn, hasReturn, endingOf}
 
 -- the mark
 pub marked-short : (x : Bytes) → length x < 3 → marked x ≡ false
@@ -115,20 +116,32 @@ module _ (x : Bytes) (e : ℕ) (q : e ≡ endOf 10 x 0) (h : e < length x) where
       let z : e ≡ suc (e - 1) = omega arith in
       behind-at 0 x (omega arith) ∙ ap (λ (k : ℕ). eqb (getD (0 ∷ x) k 0) 13) (sym q ∙ z)
 
+pub return-in : (x : Bytes) (a b : ℕ) → a ≡ endOf 13 x 0 → b ≡ endOf 10 x 0 → ltb a b ≡ hasReturn x
+unfolding hasReturn
+return-in x a b e f = rw (e, f)
+
 -- the first that applies
 module _ (x : Bytes) where
-  pub is-mark : marked x ≡ true → ByteOrderMark ≡ encodingOf x
-  unfolding encodingOf
+  pub is-mark : marked x ≡ true → ByteOrderMark ≡ frontOf x
+  unfolding frontOf
   is-mark e = rw e
 
-  pub is-wide : marked x ≡ false → wide x ≡ true → Utf16 ≡ encodingOf x
-  unfolding encodingOf
+  pub is-wide : marked x ≡ false → wide x ≡ true → Utf16 ≡ frontOf x
+  unfolding frontOf
   is-wide e f = rw (e, f)
 
-  pub is-return : marked x ≡ false → wide x ≡ false → endsInReturn x ≡ true → CarriageReturn ≡ encodingOf x
-  unfolding encodingOf
-  is-return e f g = rw (e, f, g)
+  pub is-plain : marked x ≡ false → wide x ≡ false → Plain ≡ frontOf x
+  unfolding frontOf
+  is-plain e f = rw (e, f)
 
-  pub is-plain : marked x ≡ false → wide x ≡ false → endsInReturn x ≡ false → Plain ≡ encodingOf x
-  unfolding encodingOf
-  is-plain e f g = rw (e, f, g)
+  pub is-both : endsInReturn x ≡ true → CrLf ≡ endingOf x
+  unfolding endingOf
+  is-both e = rw e
+
+  pub is-return : endsInReturn x ≡ false → hasReturn x ≡ true → Cr ≡ endingOf x
+  unfolding endingOf
+  is-return e f = rw (e, f)
+
+  pub is-feed : endsInReturn x ≡ false → hasReturn x ≡ false → Lf ≡ endingOf x
+  unfolding endingOf
+  is-feed e f = rw (e, f)

@@ -2,9 +2,12 @@
 use mathlib.Core.Bool.{Bool, false, cond, _&&_, _||_}
 use mathlib.Core.List.{List, [], _∷_}
 use Prim.Native.Nat.{ℕ}
-use lib.Dec.{eqb}
-use Rattle.encoding.specs.declared.Encoding.{Encoding}
-use Rattle.encoding.specs.declared.Encoding.the-variants.{Plain, ByteOrderMark, Utf16, CarriageReturn}
+use lib.Dec.{eqb, ltb}
+use Rattle.byte_string.specs.Strings.{endOf}
+use Rattle.encoding.specs.declared.Front.{Front}
+use Rattle.encoding.specs.declared.Front.the-variants.{Plain, ByteOrderMark, Utf16}
+use Rattle.encoding.specs.declared.Ending.{Ending}
+use Rattle.encoding.specs.declared.Ending.the-variants.{Lf, CrLf, Cr}
 
 -- bytes of an input
 abbrev pub Bytes : Type 0
@@ -27,6 +30,10 @@ wide [] = false
 wide (a ∷ []) = eqb a 0
 wide (a ∷ b ∷ x) = widePair a b
 
+-- a byte order mark or UTF-16, the first that applies
+unfoldable pub frontOf : Bytes → Front
+frontOf x = cond (marked x) ByteOrderMark (cond (wide x) Utf16 Plain)
+
 -- whether the first 0A stands behind CR, where the byte in front of all is b
 unfoldable pub behindReturn : ℕ → Bytes → Bool
 behindReturn b [] = false
@@ -36,6 +43,10 @@ behindReturn b (c ∷ x) = cond (eqb c 10) (eqb b 13) (behindReturn c x)
 unfoldable pub endsInReturn : Bytes → Bool
 endsInReturn x = behindReturn 0 x
 
--- a byte order mark, UTF-16, or CR LF, the first that applies
-unfoldable pub encodingOf : Bytes → Encoding
-encodingOf x = cond (marked x) ByteOrderMark (cond (wide x) Utf16 (cond (endsInReturn x) CarriageReturn Plain))
+-- a CR stands before the first 0A, if there is one
+unfoldable pub hasReturn : Bytes → Bool
+hasReturn x = ltb (endOf 13 x 0) (endOf 10 x 0)
+
+-- CR LF or CR, the first that applies
+unfoldable pub endingOf : Bytes → Ending
+endingOf x = cond (endsInReturn x) CrLf (cond (hasReturn x) Cr Lf)

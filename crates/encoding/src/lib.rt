@@ -2,14 +2,20 @@
 // meant.
 use byte_string::end_of;
 ghost use mathlib.Core.Path.{_≡_};
-ghost use Rattle.encoding.specs.Encodings.{marked, widePair, wide, endsInReturn, encodingOf};
+ghost use Rattle.encoding.specs.Encodings.{marked, widePair, wide, frontOf, endsInReturn, hasReturn, endingOf};
 
-// Plain; a byte order mark in front; UTF-16; or lines that end in CR before their 0A.
-pub enum Encoding {
+// What stands in front: nothing but lines; a byte order mark; or what begins UTF-16.
+pub enum Front {
     Plain,
     ByteOrderMark,
     Utf16,
-    CarriageReturn,
+}
+
+// What ends the first line: LF, CR LF, or with a CR in it perhaps CR alone.
+pub enum Ending {
+    Lf,
+    CrLf,
+    Cr,
 }
 
 // Does the input begin with a byte order mark?
@@ -60,6 +66,19 @@ fn is_wide(lines: &[u8]) -> bool
     is_wide_pair(lines[0], lines[1])
 }
 
+// What an input begins with, by these lines.
+pub fn front_of(lines: &[u8]) -> Front
+    ensures { λ r. ⌜ r ≡ frontOf (now (lines .entry)) ⌝ }
+{
+    if is_marked(lines) {
+        return Front::ByteOrderMark;
+    }
+    if is_wide(lines) {
+        return Front::Utf16;
+    }
+    Front::Plain
+}
+
 // Does the first line end in CR before its 0A?
 fn ends_in_return(lines: &[u8]) -> bool
     ensures { λ r. ⌜ r ≡ endsInReturn (now (lines .entry)) ⌝ }
@@ -75,18 +94,24 @@ fn ends_in_return(lines: &[u8]) -> bool
     lines[before] == b'\r'
 }
 
-// How an input is written that begins with these lines: the first that applies.
-pub fn encoding_of(lines: &[u8]) -> Encoding
-    ensures { λ r. ⌜ r ≡ encodingOf (now (lines .entry)) ⌝ }
+// Has the first line a CR?
+fn has_return(lines: &[u8]) -> bool
+    ensures { λ r. ⌜ r ≡ hasReturn (now (lines .entry)) ⌝ }
 {
-    if is_marked(lines) {
-        return Encoding::ByteOrderMark;
-    }
-    if is_wide(lines) {
-        return Encoding::Utf16;
-    }
+    let cr = end_of(lines, b'\r', 0);
+    let lf = end_of(lines, b'\n', 0);
+    cr < lf
+}
+
+// What ends the first of these lines.
+pub fn ending_of(lines: &[u8]) -> Ending
+    ensures { λ r. ⌜ r ≡ endingOf (now (lines .entry)) ⌝ }
+{
     if ends_in_return(lines) {
-        return Encoding::CarriageReturn;
+        return Ending::CrLf;
     }
-    Encoding::Plain
+    if has_return(lines) {
+        return Ending::Cr;
+    }
+    Ending::Lf
 }

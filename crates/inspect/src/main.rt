@@ -3,38 +3,35 @@
 // table then gives, after the header, its line and nothing else. Bytes after the last 0A are a line unless there are none. Of
 // a line only the first 260 bytes are kept: with more than 255 it is refused. What fails is said on standard error and ends
 // the run.
-use key_rows::form_buffer;
+use operations::complete::form_buffer;
+use program_io::Run;
 use program_io::Status;
 use program_io::finish;
 use program_io::input;
-use program_io::input::Input;
 use program_io::load_table;
 use program_io::output;
 use program_io::output::Output;
 use program_io::status_of;
+use program_io::warning::say_tables;
 use table::hints::fill_hints;
 use table::hints::many;
 use table_check::Verdict;
 use table_check::check_likely;
 ghost use mathlib.Core.Path.{_≡_};
 ghost use mathlib.Core.Bool.{false};
-ghost use mathlib.Core.List.{List};
+ghost use mathlib.Core.List.{[]};
 ghost use Prim.Native.Nat.{_≤_};
 ghost use lib.ListN.{length};
+ghost use Rattle.standard.specs.Table.{check, toMaximise};
 ghost use Rattle.table.specs.Hints.{Hinted};
 ghost use Rattle.table.specs.Lines.{lines};
 ghost use Rattle.lines.specs.Pieces.{rowsText};
-ghost use Rattle.lines.specs.Squeeze.{Bytes};
 ghost use Rattle.operations.specs.Both.{TestedBoth};
 ghost use Rattle.inspect_rows.specs.Rows.{lineRow};
 ghost use Rattle.program_io.specs.Handed.{Room};
-ghost use Rattle.program_io.specs.Printed.{PrintsLines, Answers};
-
-// The input as it was read, and the output as it was printed.
-struct Answered {
-    input: Input,
-    output: Output,
-}
+ghost use Rattle.program_io.specs.Printed.{PrintsLines, Answers, headed, Headed};
+ghost use Rattle.program_io.specs.Runs.{Replies, Runs};
+ghost use Rattle.inspect.specs.Header.{header};
 
 // Prints the rows of the lines of a piece, as many at a time as have room in out; none after a write that failed.
 fn print_rows(
@@ -76,8 +73,9 @@ fn print_rows(
     o
 }
 
-// Reads to the end of the input, or until reading or printing fails.
+// Behind the header, reads to the end of the input, or until reading or printing fails.
 fn answer_input(
+    from: Output,
     keyed: bool,
     aliases: &[u8],
     alias_hints: &[u16],
@@ -87,19 +85,23 @@ fn answer_input(
     block: &mut [u8],
     piece: &mut [u8],
     out: &mut [u8],
-) -> Answered
+) -> Run
     requires { let aliases = now aliases in let likely = now likely in
         ⌜ TestedBoth aliases likely × Hinted aliases (now «alias_hints») × Hinted likely (now «likely_hints») × (length (now form) ≡ 256)
-        × Room (length (now block)) (length (now piece)) × (512 ≤ length (now out)) ⌝ }
+        × Room (length (now block)) (length (now piece)) × (512 ≤ length (now out)) × Headed header from ⌝ }
     ensures { λ r. let aliases = now (aliases .entry) in let likely = now (likely .entry) in
-        ⌜ ((bs : List Bytes) × Answers (rowsText (lineRow keyed aliases likely)) bs (r .input) (r .output)) ⌝ }
+        ⌜ Replies (Answers (headed header (rowsText (lineRow keyed aliases likely)))) r ⌝ }
 {
     let mut input = input::begin();
-    let mut output = output::begin();
+    let mut output = from;
     loop {
         input = input::next(input, block, piece);
         if input::has_failed(input) {
-            return Answered { input, output };
+            return Run {
+                number: 0,
+                input,
+                output,
+            };
         }
         let whole = input::whole(input);
         output = print_rows(
@@ -114,17 +116,26 @@ fn answer_input(
             out,
         );
         if output::has_failed(output) {
-            return Answered { input, output };
+            return Run {
+                number: 0,
+                input,
+                output,
+            };
         }
         if input::is_ended(input) {
-            return Answered { input, output };
+            return Run {
+                number: 0,
+                input,
+                output,
+            };
         }
     }
 }
 
 // Answers the input over tables that passed their check; their hints and the rooms are made once.
-fn answer(keyed: bool, aliases: &[u8], likely: &[u8]) -> Status
-    requires { ⌜ TestedBoth (now aliases) (now likely) ⌝ }
+fn answer(from: Output, keyed: bool, aliases: &[u8], likely: &[u8]) -> Run
+    requires { ⌜ TestedBoth (now aliases) (now likely) × Headed header from ⌝ }
+    ensures { λ r. ⌜ Replies (Answers (headed header (rowsText (lineRow keyed (now (aliases .entry)) (now (likely .entry)))))) r ⌝ }
 {
     let mut a = many();
     fill_hints(aliases, &mut a);
@@ -134,7 +145,8 @@ fn answer(keyed: bool, aliases: &[u8], likely: &[u8]) -> Status
     let mut block = input::block_buffer();
     let mut piece = input::piece_buffer();
     let mut out = io::large_buffer();
-    let r = answer_input(
+    answer_input(
+        from,
         keyed,
         aliases,
         &a,
@@ -144,33 +156,44 @@ fn answer(keyed: bool, aliases: &[u8], likely: &[u8]) -> Status
         &mut block,
         &mut piece,
         &mut out,
-    );
-    status_of(b"inspect", r.input, r.output)
+    )
 }
 
 // Prints the header, tests the tables, and answers the input.
-fn run(keyed: bool, aliases: &[u8], likely: &[u8]) -> Status {
+fn run(keyed: bool, aliases: &[u8], likely: &[u8]) -> Run
+    ensures { λ r. let aliases = now (aliases .entry) in let likely = now (likely .entry) in
+        ⌜ Runs header (Answers (headed header (rowsText (lineRow keyed aliases likely)))) (check toMaximise aliases likely []) r ⌝ }
+{
     let o = output::print(
         output::begin(),
         b"asked\tnumber\tplace\tlanguage\tscript\tregion\tvariants\textensions\tmeaning\n",
     );
     if output::has_failed(o) {
-        return status_of(b"inspect", input::begin(), o);
+        return Run {
+            number: 0,
+            input: input::begin(),
+            output: o,
+        };
     }
     let v = check_likely(aliases, likely);
     if let Verdict::Bad(number, place, table) = v {
-        let p = program_io::print_table(o, number, place, table);
-        return program_io::refused(b"inspect", p);
+        let output = program_io::print_table(o, number, place, table);
+        say_tables(b"inspect", number);
+        return Run {
+            number,
+            input: input::begin(),
+            output,
+        };
     }
-    answer(keyed, aliases, likely)
+    answer(o, keyed, aliases, likely)
 }
 
-// Has the current folder one of the two tables, so that it can be opened?
+// Has the current folder one of the two tables, even one that can't be opened?
 fn has_tables() -> bool {
-    if program_io::can_open(b"aliases.tsv") {
+    if program_io::exists(b"aliases.tsv") {
         return true;
     }
-    program_io::can_open(b"likely.tsv")
+    program_io::exists(b"likely.tsv")
 }
 
 // With the tables of the current folder.
@@ -187,12 +210,12 @@ fn run_keyed() -> Status {
     }
     let a_len = x.len;
     let l_len = y.len;
-    run(true, &a[..a_len], &l[..l_len])
+    status_of(b"inspect", run(true, &a[..a_len], &l[..l_len]))
 }
 
 fn main() {
     if has_tables() {
         return finish(run_keyed());
     }
-    finish(run(false, b"", b""))
+    finish(status_of(b"inspect", run(false, b"", b"")))
 }

@@ -3,6 +3,7 @@
 use byte_string::end_of;
 use lines::next_line;
 use operations::complete::answer;
+use operations::complete::form_buffer;
 use operations::complete::form_hinted;
 use table::hints::fill_hints;
 use table::hints::many;
@@ -27,13 +28,6 @@ pub struct Keyed {
     pub table: u8,
     pub used: usize,
     pub len: usize,
-}
-
-// Room for a form, which has at most 255 bytes.
-pub fn form_buffer() -> [u8; 256]
-    ensures { λ r. ⌜ length r ≡ 256 ⌝ }
-{
-    [0u8; 256]
 }
 
 // What is kept: the form, or `-`.

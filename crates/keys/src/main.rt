@@ -2,38 +2,35 @@
 // each what was asked, the number and the minimised form, parted by tabs. Bytes after the last 0A are a line unless there
 // are none. A bad table gives, after the header, its line and nothing else. What fails is said on standard error and ends the
 // run.
-use key_rows::form_buffer;
+use operations::complete::form_buffer;
+use program_io::Run;
 use program_io::Status;
 use program_io::finish;
 use program_io::input;
-use program_io::input::Input;
 use program_io::load_table;
 use program_io::output;
 use program_io::output::Output;
 use program_io::status_of;
+use program_io::warning::say_tables;
 use table::hints::fill_hints;
 use table::hints::many;
 use table_check::Verdict;
 use table_check::check_likely;
 ghost use mathlib.Core.Path.{_≡_};
 ghost use mathlib.Core.Bool.{false};
-ghost use mathlib.Core.List.{List};
+ghost use mathlib.Core.List.{[]};
 ghost use Prim.Native.Nat.{_≤_};
 ghost use lib.ListN.{length};
+ghost use Rattle.standard.specs.Table.{check, toMaximise};
 ghost use Rattle.table.specs.Hints.{Hinted};
 ghost use Rattle.lines.specs.Pieces.{rowsText};
-ghost use Rattle.lines.specs.Squeeze.{Bytes};
 ghost use Rattle.operations.specs.Both.{TestedBoth};
 ghost use Rattle.key_rows.specs.Keys.{keyRow};
 ghost use Rattle.program_io.specs.Handed.{Room};
-ghost use Rattle.program_io.specs.Printed.{PrintsLines, Answers};
+ghost use Rattle.program_io.specs.Printed.{PrintsLines, Answers, headed, Headed};
+ghost use Rattle.program_io.specs.Runs.{Replies, Runs};
+ghost use Rattle.keys.specs.Header.{header};
 ghost use Rattle.table.specs.Lines.{lines};
-
-// The input as it was read, and the output as it was printed.
-struct Answered {
-    input: Input,
-    output: Output,
-}
 
 // Prints the rows of the lines of a piece, as many at a time as have room in out; none after a write that failed.
 fn print_rows(
@@ -73,8 +70,9 @@ fn print_rows(
     o
 }
 
-// Reads to the end of the input, or until reading or printing fails.
+// Behind the header, reads to the end of the input, or until reading or printing fails.
 fn answer_input(
+    from: Output,
     aliases: &[u8],
     alias_hints: &[u16],
     likely: &[u8],
@@ -83,18 +81,22 @@ fn answer_input(
     block: &mut [u8],
     piece: &mut [u8],
     out: &mut [u8],
-) -> Answered
+) -> Run
     requires { let aliases = now aliases in let likely = now likely in
         ⌜ TestedBoth aliases likely × Hinted aliases (now «alias_hints») × Hinted likely (now «likely_hints») × (length (now form) ≡ 256)
-        × Room (length (now block)) (length (now piece)) × (540 ≤ length (now out)) ⌝ }
-    ensures { λ r. ⌜ ((bs : List Bytes) × Answers (rowsText (keyRow (now (aliases .entry)) (now (likely .entry)))) bs (r .input) (r .output)) ⌝ }
+        × Room (length (now block)) (length (now piece)) × (540 ≤ length (now out)) × Headed header from ⌝ }
+    ensures { λ r. ⌜ Replies (Answers (headed header (rowsText (keyRow (now (aliases .entry)) (now (likely .entry)))))) r ⌝ }
 {
     let mut input = input::begin();
-    let mut output = output::begin();
+    let mut output = from;
     loop {
         input = input::next(input, block, piece);
         if input::has_failed(input) {
-            return Answered { input, output };
+            return Run {
+                number: 0,
+                input,
+                output,
+            };
         }
         let whole = input::whole(input);
         output = print_rows(
@@ -108,10 +110,18 @@ fn answer_input(
             out,
         );
         if output::has_failed(output) {
-            return Answered { input, output };
+            return Run {
+                number: 0,
+                input,
+                output,
+            };
         }
         if input::is_ended(input) {
-            return Answered { input, output };
+            return Run {
+                number: 0,
+                input,
+                output,
+            };
         }
     }
 }
@@ -124,8 +134,9 @@ fn out_buffer() -> [u8; 786432]
 }
 
 // Answers the input over tables that passed their check; their hints and the rooms are made once.
-fn answer(aliases: &[u8], likely: &[u8]) -> Status
-    requires { ⌜ TestedBoth (now aliases) (now likely) ⌝ }
+fn answer(from: Output, aliases: &[u8], likely: &[u8]) -> Run
+    requires { ⌜ TestedBoth (now aliases) (now likely) × Headed header from ⌝ }
+    ensures { λ r. ⌜ Replies (Answers (headed header (rowsText (keyRow (now (aliases .entry)) (now (likely .entry)))))) r ⌝ }
 {
     let mut a = many();
     fill_hints(aliases, &mut a);
@@ -135,7 +146,8 @@ fn answer(aliases: &[u8], likely: &[u8]) -> Status
     let mut block = input::block_buffer();
     let mut piece = input::piece_buffer();
     let mut out = out_buffer();
-    let r = answer_input(
+    answer_input(
+        from,
         aliases,
         &a,
         likely,
@@ -144,22 +156,33 @@ fn answer(aliases: &[u8], likely: &[u8]) -> Status
         &mut block,
         &mut piece,
         &mut out,
-    );
-    status_of(b"keys", r.input, r.output)
+    )
 }
 
 // Prints the header, tests the tables, and answers the input.
-fn run(aliases: &[u8], likely: &[u8]) -> Status {
+fn run(aliases: &[u8], likely: &[u8]) -> Run
+    ensures { λ r. let aliases = now (aliases .entry) in let likely = now (likely .entry) in
+        ⌜ Runs header (Answers (headed header (rowsText (keyRow aliases likely)))) (check toMaximise aliases likely []) r ⌝ }
+{
     let o = output::print(output::begin(), b"asked\tnumber\tkept\n");
     if output::has_failed(o) {
-        return status_of(b"keys", input::begin(), o);
+        return Run {
+            number: 0,
+            input: input::begin(),
+            output: o,
+        };
     }
     let v = check_likely(aliases, likely);
     if let Verdict::Bad(number, place, table) = v {
-        let p = program_io::print_table(o, number, place, table);
-        return program_io::refused(b"keys", p);
+        let output = program_io::print_table(o, number, place, table);
+        say_tables(b"keys", number);
+        return Run {
+            number,
+            input: input::begin(),
+            output,
+        };
     }
-    answer(aliases, likely)
+    answer(o, aliases, likely)
 }
 
 fn main() {
@@ -175,5 +198,6 @@ fn main() {
     }
     let a_len = x.len;
     let l_len = y.len;
-    finish(run(&a[..a_len], &l[..l_len]))
+    let r = run(&a[..a_len], &l[..l_len]);
+    finish(status_of(b"keys", r))
 }

@@ -61,6 +61,13 @@ pub fn from_form<'a>(
     )
 }
 
+// Room for a form, which has at most 255 bytes.
+pub fn form_buffer() -> [u8; 256]
+    ensures { λ r. ⌜ length r ≡ 256 ⌝ }
+{
+    [0u8; 256]
+}
+
 // The maximised form of an identifier, or with shorten the minimised one. Both first canonicalise. Each table's hints stand
 // behind it.
 pub fn form_hinted(

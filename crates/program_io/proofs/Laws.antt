@@ -2,7 +2,7 @@
 use mathlib.Core.Path.{_≡_, refl, sym, ap, _∙_}
 use mathlib.Core.Bool.{Bool, true, false, true≢false}
 use mathlib.Core.List.{List, [], _∷_, _++_}
-use Prim.Native.Nat.{ℕ, _+_, _≤_, _<_}
+use Prim.Native.Nat.{ℕ, zero, suc, _+_, _≤_, _<_}
 use native.Mathlib.Omega.{arith}
 use lib.ListN.{length, take, length-append}
 use lib.Seq.{length-take-le}
@@ -17,7 +17,7 @@ use Rattle.program_io.specs.declared.input.Last.{Last}
 use Rattle.program_io.specs.declared.input.Last.the-variants.{Block, End, Failure}
 use Rattle.program_io.specs.declared.Loaded.{Loaded}
 use Rattle.program_io.specs.declared.Loaded.the-variants.{Bytes as Loaded·Bytes}
-use Rattle.program_io.specs.declared.Status.the-variants.{Done, Failed}
+use Rattle.program_io.specs.declared.Status.the-variants.{Done, Failed, Refused}
 use Rattle.program_io.specs.Calls.{Fits, loadedBy, LoadedWithin}
 use Rattle.program_io.specs.Status.{statusOf}
 use Rattle.program_io.specs.Handed.{isEnd, isFailure, gotBy, Going, Handed, Counted, GotWithin}
@@ -86,18 +86,25 @@ failure-of Block e = cc
 failure-of End e = cc
 failure-of Failure e = refl
 
--- a run that failed to read, and one that did not fail
-pub status-failed : (l : Last) (o : Bool) → isFailure l ≡ true → Failed ≡ statusOf l o
-status-failed l true e = refl
-status-failed Block false e = absurd (true≢false (sym e))
-status-failed End false e = absurd (true≢false (sym e))
-status-failed Failure false e = refl
+-- a run that is refused, one that failed to read, and one that did not fail
+pub status-refused : (n : ℕ) (l : Last) (o : Bool) → o ≡ false → (n ≡ 0 → ⊥) → Refused ≡ statusOf n l o
+status-refused n l true f e = absurd (true≢false f)
+status-refused zero l false f e = absurd (e refl)
+status-refused (suc n) l false f e = refl
 
-pub status-done : (l : Last) (o : Bool) → o ≡ false → isFailure l ≡ false → Done ≡ statusOf l o
-status-done l true f e = absurd (true≢false f)
-status-done Block false f e = refl
-status-done End false f e = refl
-status-done Failure false f e = absurd (true≢false e)
+pub status-failed : (n : ℕ) (l : Last) (o : Bool) → n ≡ 0 → isFailure l ≡ true → Failed ≡ statusOf n l o
+status-failed n l true z e = refl
+status-failed (suc n) l false z e = absurd (omega arith)
+status-failed zero Block false z e = absurd (true≢false (sym e))
+status-failed zero End false z e = absurd (true≢false (sym e))
+status-failed zero Failure false z e = refl
+
+pub status-done : (n : ℕ) (l : Last) (o : Bool) → o ≡ false → n ≡ 0 → isFailure l ≡ false → Done ≡ statusOf n l o
+status-done n l true f z e = absurd (true≢false f)
+status-done (suc n) l false f z e = absurd (omega arith)
+status-done zero Block false f z e = refl
+status-done zero End false f z e = refl
+status-done zero Failure false f z e = absurd (true≢false e)
 
 -- what was read of a file fits
 pub loaded-fits : (m : Moved) (len room : ℕ) (r : Loaded) → r ≡ loadedBy m len → len ≤ room → LoadedWithin r room

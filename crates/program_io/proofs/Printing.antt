@@ -19,11 +19,11 @@ use Rattle.program_io.specs.declared.input.Input.{Input}
 use Rattle.program_io.specs.declared.output.Output.{Output}
 use Rattle.program_io.specs.declared.input.Last.{Last}
 use Rattle.program_io.specs.declared.input.Last.the-variants.{Block, End, Failure}
-use Rattle.program_io.specs.Handed.{isFailure, Ended, Broken, Handed}
-use Rattle.program_io.specs.Printed.{Prints, PrintsLines, Answers}
+use Rattle.program_io.specs.Handed.{isFailure, Read, Ended, Broken, Handed}
+use Rattle.program_io.specs.Printed.{Prints, PrintsLines, headed, Headed, Answers}
 
 -- a text more is counted
-counted : (n a t b : ℕ) → b ≡ (n + a) % 2 ^ 64 → (b + t) % 2 ^ 64 ≡ (n + (a + t)) % 2 ^ 64
+pub counted : (n a t b : ℕ) → b ≡ (n + a) % 2 ^ 64 → (b + t) % 2 ^ 64 ≡ (n + (a + t)) % 2 ^ 64
 counted n a t b e =
     let z : n + a + t ≡ n + (a + t) = omega arith in
     ap (λ (m : ℕ). (m + t) % 2 ^ 64) e ∙ mod-add-mod (n + a) (2 ^ 64) t ∙ ap (λ (m : ℕ). m % 2 ^ 64) z
@@ -69,14 +69,11 @@ module _ (rows : List Bytes → Bytes) (none : rows [] ≡ []) where
     first = λ g. (p .before, lines (drop at x), p .cut, q .failed g ∙ p .bytes);
   }
 
+module _ (rows : List Bytes → Bytes) where
   -- The rows of the pieces that were handed over of the blocks bs were printed.
   pub record Printed (bs : List Bytes) (o : Output) : Type 0 where
     pub going : o .failed ≡ false
     pub bytes : o .bytes ≡ length (rows (allLines (handedOver [] bs))) % 2 ^ 64
-
-  pub printed-none : (o : Output) → o .bytes ≡ 0 → o .failed ≡ false → Printed [] o
-  unfolding allLines handedOver
-  printed-none o e f = record { going = f; bytes = e ∙ sym (ap (λ (t : Bytes). length t % 2 ^ 64) none) }
 
   -- One piece more, whose rows are those of its lines behind the others.
   module _ (bs : List Bytes) (x : Bytes) (o o′ : Output) (rest : List Bytes → Bytes) (p : Printed bs o) (q : PrintsLines rest (lines x) o o′)
@@ -97,25 +94,42 @@ module _ (rows : List Bytes → Bytes) (none : rows [] ≡ []) where
     answers-end first i h e f =
         inl (record { read = e; printed = f; bytes = all-of (handed [] bs) h f ∙ ap (λ (t : Bytes). length t % 2 ^ 64) (ap rows (all-lines bs) ∙ first (lines (together bs))) })
 
-    pub answers-unwritten : (cs : List Bytes) (i : Input) → _⊎_ (handedOver [] cs ≡ handedOver [] bs ++ (x ∷ [])) (handed [] cs ≡ handedOver [] bs ++ (x ∷ [])) → o′ .failed ≡ true → Answers rows cs i o′
+    pub answers-unwritten : (cs : List Bytes) (i : Input) → Read cs i → _⊎_ (handedOver [] cs ≡ handedOver [] bs ++ (x ∷ [])) (handed [] cs ≡ handedOver [] bs ++ (x ∷ [])) → o′ .failed ≡ true → Answers rows cs i o′
     unfolding Answers
-    answers-unwritten cs i l f =
+    answers-unwritten cs i d l f =
         let w = q .first f in
-        inr (inr (record { failed = f; pieces = handedOver [] bs; x = x; last = l; ls = w .0; ms = w .1; cut = w .2; bytes = so-far (w .0) (o′ .bytes) (w .3) }))
+        inr (inr (record { read = d; failed = f; pieces = handedOver [] bs; x = x; last = l; ls = w .0; ms = w .1; cut = w .2; bytes = so-far (w .0) (o′ .bytes) (w .3) }))
 
   pub answers-unread : (bs : List Bytes) (o : Output) (i : Input) → Printed bs o → Broken bs i → Answers rows bs i o
   unfolding Answers
   answers-unread bs o i p b = inr (inl (record { read = b; printed = p .going; bytes = p .bytes }))
 
+-- Rows behind a header: of no lines, of more lines, and of what the line reader keeps of them.
+module _ (header : Bytes) (rows : List Bytes → Bytes) where
+  pub printed-header : rows [] ≡ [] → (o : Output) → Headed header o → Printed (headed header rows) [] o
+  unfolding headed allLines handedOver
+  printed-header none o h = record { going = h .printed; bytes = h .bytes ∙ sym (ap (λ (t : Bytes). length t % 2 ^ 64) (ap (λ (t : Bytes). header ++ t) none ∙ append-nil header)) }
+
+  pub headed-behind : (rest : List Bytes → Bytes) (xs : List Bytes) → ((ls : List Bytes) → rows (xs ++ ls) ≡ rows xs ++ rest ls) → (ls : List Bytes) → headed header rows (xs ++ ls) ≡ headed header rows xs ++ rest ls
+  unfolding headed
+  headed-behind rest xs e ls = ap (λ (t : Bytes). header ++ t) (e ls) ∙ sym (append-assoc header (rows xs) (rest ls))
+
+  pub headed-first : ((ls : List Bytes) → rows (map (take 260) ls) ≡ rows ls) → (ls : List Bytes) → headed header rows (map (take 260) ls) ≡ headed header rows ls
+  unfolding headed
+  headed-first e ls = ap (λ (t : Bytes). header ++ t) (e ls)
+
+pub headed-printed : (header : Bytes) (from o : Output) → from .bytes ≡ 0 → Prints from (length header) o → o .failed ≡ false → Headed header o
+headed-printed header from o z p f = record { printed = f; bytes = p .counted f ∙ (let e : from .bytes + length header ≡ length header = omega (arith, z) in ap (λ (m : ℕ). m % 2 ^ 64) e) }
+
 -- a piece that was handed over is the last one, of the blocks read so far or of the whole input
 pub handed-piece : (bs : List Bytes) (b : Bytes) (i : Input) (piece : Bytes) → Handed bs b i piece → isFailure (i .last) ≡ false
-    → ((cs : List Bytes) × ((handedOver [] cs ≡ handedOver [] bs ++ (take (i .taken .whole) piece ∷ [])) ⊎ (handed [] cs ≡ handedOver [] bs ++ (take (i .taken .whole) piece ∷ []))))
+    → ((cs : List Bytes) × Read cs i × ((handedOver [] cs ≡ handedOver [] bs ++ (take (i .taken .whole) piece ∷ [])) ⊎ (handed [] cs ≡ handedOver [] bs ++ (take (i .taken .whole) piece ∷ []))))
 handed-piece bs b i piece h f = go (i .last) refl f
   where
     go : (l : Last) → i .last ≡ l → isFailure l ≡ false
-        → ((cs : List Bytes) × ((handedOver [] cs ≡ handedOver [] bs ++ (take (i .taken .whole) piece ∷ [])) ⊎ (handed [] cs ≡ handedOver [] bs ++ (take (i .taken .whole) piece ∷ []))))
-    go Block e g = (bs ++ (b ∷ []), inl (h .lines e))
-    go End e g = (bs, inr (h .last e))
+        → ((cs : List Bytes) × Read cs i × ((handedOver [] cs ≡ handedOver [] bs ++ (take (i .taken .whole) piece ∷ [])) ⊎ (handed [] cs ≡ handedOver [] bs ++ (take (i .taken .whole) piece ∷ []))))
+    go Block e g = (bs ++ (b ∷ []), record { unfailed = f; bytes = h .going e .bytes }, inl (h .lines e))
+    go End e g = (bs, record { unfailed = f; bytes = h .ended e .bytes }, inr (h .last e))
     go Failure e g = absurd (true≢false g)
 
 -- Rows that are each made of a line alone: a call wrote as many as had room.

@@ -50,6 +50,11 @@ pub record Going (bs : List Text) (i : Input) (piece : Text) : Type 0 where
   pub bytes : i .bytes ≡ length (together bs)
   pub carried : Carries bs (i .taken) piece
 
+-- The blocks bs were read, with no failure.
+pub record Read (bs : List Text) (i : Input) : Type 0 where
+  pub unfailed : isFailure (i .last) ≡ false
+  pub bytes : i .bytes ≡ length (together bs)
+
 -- The blocks bs were read, and they are the whole input.
 pub record Ended (bs : List Text) (i : Input) : Type 0 where
   pub no-more : i .last ≡ End

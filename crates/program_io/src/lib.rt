@@ -9,6 +9,8 @@ use crate::input::Input;
 use crate::output::Output;
 use crate::system::Moved;
 use crate::system::write_all;
+use libc::ELOOP;
+use libc::ENOENT;
 use libc::STDERR_FILENO;
 use tsv::table_line;
 ghost use mathlib.Core.Path.{_≡_};
@@ -18,7 +20,7 @@ ghost use Rattle.io.specs.Counts.{Counts};
 ghost use Rattle.tsv.specs.Fields.{tableText};
 ghost use Rattle.program_io.specs.Calls.{loadedBy, LoadedWithin};
 ghost use Rattle.program_io.specs.Printed.{Prints};
-ghost use Rattle.program_io.specs.Status.{digitOf, refusedOf, statusOf};
+ghost use Rattle.program_io.specs.Status.{digitOf, statusOf};
 
 // One byte more than a table may have, so that no table is cut to one that passes.
 pub fn buffer() -> [u8; 32769]
@@ -90,14 +92,18 @@ fn load(path: &[u8], buffer: &mut [u8]) -> Loaded
     r
 }
 
-// Can the file be opened?
-pub fn can_open(path: &[u8]) -> bool {
+// Is there such a file, whether or not it can be opened? A link that leads nowhere is none.
+pub fn exists(path: &[u8]) -> bool {
     let fd = system::open(path);
-    if fd < 0 {
+    if fd >= 0 {
+        libc::close(fd);
+        return true;
+    }
+    let error = os::errno();
+    if error == ENOENT {
         return false;
     }
-    libc::close(fd);
-    true
+    error != ELOOP
 }
 
 // The length of a table, and whether it was read.
@@ -148,6 +154,13 @@ pub fn print_table(o: Output, number: u8, place: usize, table: u8) -> Output
     output::print(o, &bytes[..len])
 }
 
+// A run: 0, or the number of refused tables or of a refused bill; the input as it was read, and the output as it was printed.
+pub struct Run {
+    pub number: u8,
+    pub input: Input,
+    pub output: Output,
+}
+
 // What a run came to: done; input or output failed; tables or the bill refused.
 pub enum Status {
     Done,
@@ -155,30 +168,22 @@ pub enum Status {
     Refused,
 }
 
-// What a run came to that read the input and printed; a failure is said.
-pub fn status_of(program: &[u8], i: Input, o: Output) -> Status
-    ensures { λ r. ⌜ r ≡ statusOf (i .last) (o .failed) ⌝ }
+// What the run came to; a failure is said.
+pub fn status_of(program: &[u8], r: Run) -> Status
+    ensures { λ s. ⌜ s ≡ statusOf (r .number) (r .input .last) (r .output .failed) ⌝ }
 {
-    if output::has_failed(o) {
+    if output::has_failed(r.output) {
         say_failed(program, b"standard output", b"");
         return Status::Failed;
     }
-    if input::has_failed(i) {
+    if r.number != 0 {
+        return Status::Refused;
+    }
+    if input::has_failed(r.input) {
         say_failed(program, b"standard input", b"");
         return Status::Failed;
     }
     Status::Done
-}
-
-// The same of one that printed a refusal.
-pub fn refused(program: &[u8], o: Output) -> Status
-    ensures { λ r. ⌜ r ≡ refusedOf (o .failed) ⌝ }
-{
-    if output::has_failed(o) {
-        say_failed(program, b"standard output", b"");
-        return Status::Failed;
-    }
-    Status::Refused
 }
 
 // The exit status, as a digit.

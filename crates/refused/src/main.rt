@@ -2,45 +2,42 @@
 // row for each line that the bill counts as refused: the line's number, the member, number and place of the refusal, the
 // identifier and the meaning, parted by tabs. A bad table gives, after the header, its line and nothing else. What fails is
 // said on standard error and ends the run; an input that is not written plainly is named there.
+use operations::complete::form_buffer;
+use program_io::Run;
 use program_io::Status;
 use program_io::finish;
 use program_io::input;
-use program_io::input::Input;
 use program_io::load_table;
 use program_io::output;
 use program_io::output::Output;
 use program_io::status_of;
 use program_io::warning::say_encoding;
-use refused_rows::form_buffer;
+use program_io::warning::say_tables;
 use table::hints::fill_hints;
 use table::hints::many;
 use table_check::Verdict;
 use table_check::check_likely;
 ghost use mathlib.Core.Path.{_≡_};
 ghost use mathlib.Core.Bool.{false};
-ghost use mathlib.Core.List.{List};
+ghost use mathlib.Core.List.{[]};
 ghost use Prim.Native.Nat.{_≤_};
 ghost use lib.ListN.{length};
+ghost use Rattle.standard.specs.Table.{check, toMaximise};
 ghost use Rattle.table.specs.Hints.{Hinted};
 ghost use Rattle.table.specs.Lines.{lines};
-ghost use Rattle.lines.specs.Squeeze.{Bytes};
 ghost use Rattle.operations.specs.Both.{TestedBoth};
 ghost use Rattle.refused_rows.specs.Numbered.{rowsFrom, numberAfter};
 ghost use Rattle.refused_rows.specs.Rows.{lineRow};
 ghost use Rattle.program_io.specs.Handed.{Room};
-ghost use Rattle.program_io.specs.Printed.{PrintsLines};
+ghost use Rattle.program_io.specs.Printed.{PrintsLines, Headed};
+ghost use Rattle.program_io.specs.Runs.{Replies, Runs};
+ghost use Rattle.refused.specs.Header.{header};
 ghost use Rattle.refused.specs.Lists.{Lists};
 
 // The output as it was printed, and the number of the next line.
 struct Printed {
     output: Output,
     next: usize,
-}
-
-// The input as it was read, and the output as it was printed.
-struct Answered {
-    input: Input,
-    output: Output,
 }
 
 // Prints the rows of the refused lines of a piece whose first line has the number `first`, as many at a time as have room in
@@ -88,8 +85,9 @@ fn print_rows(
     Printed { output: o, next }
 }
 
-// Reads to the end of the input, or until reading or printing fails. The first lines show how the input is written.
+// Behind the header, reads to the end of the input, or until reading or printing fails. The first lines show how the input is written.
 fn answer_input(
+    from: Output,
     aliases: &[u8],
     alias_hints: &[u16],
     likely: &[u8],
@@ -98,19 +96,23 @@ fn answer_input(
     block: &mut [u8],
     piece: &mut [u8],
     out: &mut [u8],
-) -> Answered
+) -> Run
     requires { let aliases = now aliases in let likely = now likely in
         ⌜ TestedBoth aliases likely × Hinted aliases (now «alias_hints») × Hinted likely (now «likely_hints») × (length (now form) ≡ 256)
-        × Room (length (now block)) (length (now piece)) × (2400 ≤ length (now out)) ⌝ }
-    ensures { λ r. ⌜ ((bs : List Bytes) × Lists (now (aliases .entry)) (now (likely .entry)) bs (r .input) (r .output)) ⌝ }
+        × Room (length (now block)) (length (now piece)) × (2400 ≤ length (now out)) × Headed header from ⌝ }
+    ensures { λ r. ⌜ Replies (Lists (now (aliases .entry)) (now (likely .entry))) r ⌝ }
 {
     let mut input = input::begin();
-    let mut output = output::begin();
+    let mut output = from;
     let mut next = 1;
     loop {
         input = input::next(input, block, piece);
         if input::has_failed(input) {
-            return Answered { input, output };
+            return Run {
+                number: 0,
+                input,
+                output,
+            };
         }
         let whole = input::whole(input);
         say_first(next, &piece[..whole]);
@@ -129,10 +131,18 @@ fn answer_input(
         output = o;
         next = p.next;
         if output::has_failed(output) {
-            return Answered { input, output };
+            return Run {
+                number: 0,
+                input,
+                output,
+            };
         }
         if input::is_ended(input) {
-            return Answered { input, output };
+            return Run {
+                number: 0,
+                input,
+                output,
+            };
         }
     }
 }
@@ -152,8 +162,9 @@ fn out_buffer() -> [u8; 262144]
 }
 
 // Answers the input over tables that passed their check; their hints and the rooms are made once.
-fn answer(aliases: &[u8], likely: &[u8]) -> Status
-    requires { ⌜ TestedBoth (now aliases) (now likely) ⌝ }
+fn answer(from: Output, aliases: &[u8], likely: &[u8]) -> Run
+    requires { ⌜ TestedBoth (now aliases) (now likely) × Headed header from ⌝ }
+    ensures { λ r. ⌜ Replies (Lists (now (aliases .entry)) (now (likely .entry))) r ⌝ }
 {
     let mut a = many();
     fill_hints(aliases, &mut a);
@@ -163,7 +174,8 @@ fn answer(aliases: &[u8], likely: &[u8]) -> Status
     let mut block = input::block_buffer();
     let mut piece = input::piece_buffer();
     let mut out = out_buffer();
-    let r = answer_input(
+    answer_input(
+        from,
         aliases,
         &a,
         likely,
@@ -172,25 +184,36 @@ fn answer(aliases: &[u8], likely: &[u8]) -> Status
         &mut block,
         &mut piece,
         &mut out,
-    );
-    status_of(b"refused", r.input, r.output)
+    )
 }
 
 // Prints the header, tests the tables, and answers the input.
-fn run(aliases: &[u8], likely: &[u8]) -> Status {
+fn run(aliases: &[u8], likely: &[u8]) -> Run
+    ensures { λ r. let aliases = now (aliases .entry) in let likely = now (likely .entry) in
+        ⌜ Runs header (Lists aliases likely) (check toMaximise aliases likely []) r ⌝ }
+{
     let o = output::print(
         output::begin(),
         b"line\tmember\tnumber\tplace\tidentifier\tmeaning\n",
     );
     if output::has_failed(o) {
-        return status_of(b"refused", input::begin(), o);
+        return Run {
+            number: 0,
+            input: input::begin(),
+            output: o,
+        };
     }
     let v = check_likely(aliases, likely);
     if let Verdict::Bad(number, place, table) = v {
-        let p = program_io::print_table(o, number, place, table);
-        return program_io::refused(b"refused", p);
+        let output = program_io::print_table(o, number, place, table);
+        say_tables(b"refused", number);
+        return Run {
+            number,
+            input: input::begin(),
+            output,
+        };
     }
-    answer(aliases, likely)
+    answer(o, aliases, likely)
 }
 
 fn main() {
@@ -206,5 +229,6 @@ fn main() {
     }
     let a_len = x.len;
     let l_len = y.len;
-    finish(run(&a[..a_len], &l[..l_len]))
+    let r = run(&a[..a_len], &l[..l_len]);
+    finish(status_of(b"refused", r))
 }

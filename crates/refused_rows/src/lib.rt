@@ -8,6 +8,7 @@ mod row;
 use byte_string::end_of;
 use fault::line_fault;
 use lines::next_line;
+use operations::complete::form_buffer;
 use row::put_fault;
 use std::num::wrapping_add_usize;
 use table::hints::fill_hints;
@@ -32,13 +33,6 @@ pub struct Rowed {
     pub used: usize,
     pub next: usize,
     pub len: usize,
-}
-
-// Room for a form, which has at most 255 bytes.
-pub fn form_buffer() -> [u8; 256]
-    ensures { λ r. ⌜ length r ≡ 256 ⌝ }
-{
-    [0u8; 256]
 }
 
 // The row of a line of at most 260 bytes. What form holds before and after is of no account.

@@ -90,15 +90,28 @@ fn member_fault(member: &[u8]) -> Option<&'static str> {
 }
 
 /// What `bill` and `refused` say on standard error about an input that was
-/// written in another way than theirs.
+/// written in another way than theirs. Of its first line, the mark included,
+/// only the bytes that are kept count.
 pub fn note(input: &[u8]) -> Option<&'static str> {
-    if input.starts_with(b"\xEF\xBB\xBF") {
-        return Some("the input begins with a byte order mark");
-    }
-    let marked = input.starts_with(b"\xFF\xFE") || input.starts_with(b"\xFE\xFF");
-    if marked || input.iter().take(2).any(|&byte| byte == 0) {
+    let utf_16 = input.starts_with(b"\xFF\xFE") || input.starts_with(b"\xFE\xFF");
+    if utf_16 || input.iter().take(2).any(|&byte| byte == 0) {
         return Some("the input is UTF-16");
     }
-    let end = input.iter().position(|&byte| byte == b'\n')?;
-    input[..end].ends_with(b"\r").then_some("the lines end in CR LF")
+    let end = input.iter().position(|&byte| byte == b'\n');
+    let line = &input[..end.unwrap_or(input.len()).min(KEPT)];
+    let cr_lf = end.is_some() && line.ends_with(b"\r");
+    let cr = line.contains(&b'\r');
+    if line.starts_with(b"\xEF\xBB\xBF") {
+        return Some(if cr_lf {
+            "the input begins with a byte order mark, and its lines end in CR LF"
+        } else if cr {
+            "the input begins with a byte order mark, and its first line has CR in it"
+        } else {
+            "the input begins with a byte order mark"
+        });
+    }
+    if cr_lf {
+        return Some("the lines end in CR LF");
+    }
+    cr.then_some("the first line has CR in it, as where lines end in CR alone")
 }

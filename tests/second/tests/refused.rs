@@ -207,24 +207,75 @@ fn more_keys_and_lines_than_a_bill_has() {
 
 #[test]
 fn notes() {
+    let utf_16 = "the input is UTF-16";
+    let mark = "the input begins with a byte order mark";
+    let mark_cr_lf = "the input begins with a byte order mark, and its lines end in CR LF";
+    let mark_cr = "the input begins with a byte order mark, and its first line has CR in it";
+    let cr_lf = "the lines end in CR LF";
+    let cr = "the first line has CR in it, as where lines end in CR alone";
     for (input, said) in [
-        (&b"\xEF\xBB\xBF1\ten\r\n"[..], "the input begins with a byte order mark"),
-        (b"\xFF\xFE1\0", "the input is UTF-16"),
-        (b"\xFE\xFF", "the input is UTF-16"),
-        (b"\0", "the input is UTF-16"),
-        (b"1\0\t\0", "the input is UTF-16"),
-        (b"\r\n", "the lines end in CR LF"),
-        (b"1\ten\r\n2\ten\n", "the lines end in CR LF"),
+        (&b"\xFF\xFE1\0"[..], utf_16),
+        (b"\xFE\xFF", utf_16),
+        (b"\0", utf_16),
+        (b"1\0\t\0", utf_16),
+        (b"\0\r\0\n", utf_16),
+        (b"\r\0\n\0", utf_16),
+        (b"\n\0", utf_16),
+        (b"\xEF\0\xBB\xBF", utf_16),
+        (b"\xEF\xBB\xBF", mark),
+        (b"\xEF\xBB\xBF\n", mark),
+        (b"\xEF\xBB\xBF1\ten\n2\ten\n", mark),
+        (b"\xEF\xBB\xBF1\ten\n2\ten\r\n", mark),
+        (b"\xEF\xBB\xBF\0", mark),
+        (b"\xEF\xBB\xBF\xFF\xFE", mark),
+        (b"\xEF\xBB\xBF1\ten\r\n", mark_cr_lf),
+        (b"\xEF\xBB\xBF\r\n", mark_cr_lf),
+        (b"\xEF\xBB\xBF1\r2\r\n", mark_cr_lf),
+        (b"\xEF\xBB\xBF1\ten\r2\ten\r", mark_cr),
+        (b"\xEF\xBB\xBF\r", mark_cr),
+        (b"\xEF\xBB\xBF1\ten\r \n2\ten\r\n", mark_cr),
+        (b"\r\n", cr_lf),
+        (b"1\ten\r\n2\ten\n", cr_lf),
+        (b"1\te\rn\r\n", cr_lf),
+        (b"\r\r\n", cr_lf),
+        (b"1\ten\r\n2\ten\r3", cr_lf),
+        (b"\r", cr),
+        (b"\r\r", cr),
+        (b"1\ten\r", cr),
+        (b"1\ten\r2\ten\r", cr),
+        (b"1\ten\r2\ten", cr),
+        (b"1\ten\r \n", cr),
+        (b"\r1\ten\n2\ten\r\n", cr),
+        (b"\xEF\xBB\r", cr),
+        (b"\xFF\r\xFE\n", cr),
         (b"", ""),
+        (b"1", ""),
+        (b"\n", ""),
         (b"\xEF\xBB", ""),
+        (b"\xEF\xBB\n\xBF\r\n", ""),
+        (b"\n\xEF\xBB\xBF\r\n", ""),
         (b"\xFF", ""),
         (b"12\0", ""),
         (b"1\ten\n2\ten\r\n", ""),
-        (b"1\ten\r", ""),
-        (b"1\ten\r \n", ""),
+        (b"1\ten\n2\te\rn\n", ""),
+        (b"1\ten\n\r", ""),
         (b"\n\r\n", ""),
     ] {
         assert_eq!(second::refused::note(input).unwrap_or_default(), said, "{input:?}");
+    }
+    // A CR among the first 260 bytes of the first line is seen, one behind them
+    // isn't; a mark is part of them.
+    for (before, seen) in [(100, true), (258, true), (259, true), (260, false), (5_000, false)] {
+        for (start, with_cr_lf, with_cr, without) in
+            [(&b""[..], cr_lf, cr, ""), (b"\xEF\xBB\xBF", mark_cr_lf, mark_cr, mark)]
+        {
+            let line = [start, &vec![b'a'; before - start.len()][..]].concat();
+            for (end, said) in [(&b"\r\n"[..], with_cr_lf), (b"\r", with_cr), (b"\n\r", without)] {
+                let input = [&line, end].concat();
+                let said = if seen { said } else { without };
+                assert_eq!(second::refused::note(&input).unwrap_or_default(), said, "{before}");
+            }
+        }
     }
 }
 

@@ -1,14 +1,16 @@
 -- `bill::make_text` meets its contract. Assumes nothing.
 use mathlib.Core.Path.{_≡_, refl, sym, _∙_}
-use mathlib.Core.List.{[]}
+use mathlib.Core.List.{List, []}
 use Prim.Native.Nat.{_≤_}
 use native.Mathlib.Omega.{arith}
 use lib.ListN.{length}
 use lib.Seq.{length-take-le}
 use Rattle.operations.proofs.CompleteChecked.{tested-both}
 use Rattle.program_io.proofs.Laws.{failure-of}
+use Rattle.standard.specs.Delivery.{Bytes}
 use Rattle.bill_ledger.specs.Up.{Sized}
-use Rattle.bill_lines.proofs.Bills.{text-made}
+use Rattle.bill_lines.specs.Held.{Held}
+use Rattle.bill_lines.proofs.Bills.{text-made, held-number}
 use Rattle.bill_lines.proofs.Helds.{held-stays, held-passes}
 use Rattle.bill.proofs.Laws.{makes-text, makes-nothing, makes-bad}
 use borrow.Author.Needs.{needs}
@@ -49,9 +51,14 @@ returns c =
     let m = c .before .before .before .before .before .before .before .before .before .before .count-room in
     let z : Sized (k .result) (m .result) = record { keys = k .ensures; counts = m .ensures } in
     let same : length (w .last .1 .1 .1 .0) ≡ length (s .args .block .now) = search needs in
-    let fits = w .ensures .2 in (
+    let fits = w .ensures .2 in
+    let stays : (ls : List Bytes) → Held (s .args .aliases .now) (s .args .likely .now) ls (t .result) (k .result) (m .result) = λ ls. held-stays _ _ [] ls (t .result) _ _ (t .ensures (k .result) (m .result) z) n in (
       (omega arith, sym (length-take-le (w .result) (w .last .1 .1 .1 .0) (omega arith))),
-      ([], makes-bad _ _ _ _ n (λ ls. text-made (s .args .aliases .now) (s .args .likely .now) ls (t .result) _ _ (s .args .block .now) _ (w .result) (held-stays _ _ [] ls (t .result) _ _ (t .ensures (k .result) (m .result) z) n) (s .pre .0) (w .ensures))),
+      (
+        [],
+        makes-bad _ _ _ _ _ (c .begin .ensures .1) n (λ ls. held-number _ _ ls (t .result) _ _ (stays ls))
+            (λ ls. text-made (s .args .aliases .now) (s .args .likely .now) ls (t .result) _ _ (s .args .block .now) _ (w .result) (stays ls) (s .pre .0) (w .ensures)),
+      ),
     )
 
 slice-aggregate-take-tested : tie.Need-slice-aggregate-take-tested
@@ -80,7 +87,7 @@ same-length-2 c = search needs
 returns-2 : tie.Need-returns-2
 returns-2 c =
     let t = c .before .before .before .before .before .before .before .before .take-tested in
-    ((omega arith, refl), (t .ensures .0, makes-nothing _ _ (t .ensures .0) (t .result) _ _ _ _ refl refl (t .ensures .1) (failure-of (t .result .input .last) (sym (c .before .has-failed .ensures) ∙ c .if2 .taken))))
+    ((omega arith, refl), (t .ensures .0, makes-nothing _ _ (t .ensures .0) (t .result) _ _ _ refl (t .ensures .1) (failure-of (t .result .input .last) (sym (c .before .has-failed .ensures) ∙ c .if2 .taken))))
 
 slice-aggregate-write-3 : tie.Need-slice-aggregate-write-3
 slice-aggregate-write-3 c = search needs
@@ -104,7 +111,7 @@ returns-3 c =
     let after : length (w .last .1 .1 .1 .0) ≡ length (t .last .1 .1 .1 .0) = search needs in
     let fits = w .ensures .2 in (
       (omega arith, sym (length-take-le (w .result) (w .last .1 .1 .1 .0) (omega arith))),
-      (t .ensures .0, makes-text _ _ (t .ensures .0) (t .result) _ _ _ _ refl refl (λ ls h. text-made (s .args .aliases .now) (s .args .likely .now) ls (t .result .counts) _ _ (t .last .1 .1 .1 .0) _ (w .result) h room (w .ensures)) (t .ensures .1) (sym (c .before .before .before .before .before .before .before .has-failed .ensures) ∙ c .before .before .before .before .before .before .if2 .left)),
+      (t .ensures .0, makes-text _ _ (t .ensures .0) (t .result) _ _ _ (λ ls h. text-made (s .args .aliases .now) (s .args .likely .now) ls (t .result .counts) _ _ (t .last .1 .1 .1 .0) _ (w .result) h room (w .ensures)) (t .ensures .1) (sym (c .before .before .before .before .before .before .before .has-failed .ensures) ∙ c .before .before .before .before .before .before .if2 .left)),
     )
 
 pub make-text-spec : {M : Type 1} → statement M

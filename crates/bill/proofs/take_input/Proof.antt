@@ -119,7 +119,7 @@ returns-2 c =
     let bs = l .inv .7 .0 in
     let h = n .ensures .2 bs (l .inv .7 .1) in
     let p = piece-held (c .before .before .before .before .before .before .before .before) in
-    bills-refused _ _ bs _ _ _ _ _ h p (sym (c .before .before .before .before .before .before .before .before .before .before .before .before .before .before .before .before .before .has-failed .ensures) ∙ c .before .before .before .before .before .before .before .before .before .before .before .before .before .before .before .before .if1 .left) (c .if2 .taken)
+    bills-refused _ _ bs _ _ _ _ _ h p _ _ _ (l .inv .7 .2) (l .inv .6) (sym (c .before .before .before .before .before .before .before .before .before .before .before .before .before .before .before .before .before .has-failed .ensures) ∙ c .before .before .before .before .before .before .before .before .before .before .before .before .before .before .before .before .if1 .left) (c .if2 .taken)
 
 is-ended-requires : tie.Need-is-ended-requires Inv-loop μ-loop
 is-ended-requires c κs = search needs

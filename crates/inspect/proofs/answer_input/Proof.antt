@@ -11,11 +11,12 @@ use Rattle.lines.specs.Pieces.{rowsText}
 use Rattle.lines.specs.Reader.{Placed}
 use Rattle.lines.proofs.Pieces.{rows-none, rows-append, rows-first}
 use Rattle.program_io.specs.Handed.{Going}
-use Rattle.program_io.specs.Printed.{PrintsLines}
+use Rattle.program_io.specs.Printed.{PrintsLines, headed}
 use Rattle.program_io.proofs.Laws.{block-of, end-of, failure-of}
-use Rattle.program_io.proofs.Printing.{Printed, printed-none, printed-more, handed-piece, answers-unread, answers-unwritten, answers-end}
+use Rattle.program_io.proofs.Printing.{Printed, printed-header, headed-behind, headed-first, printed-more, handed-piece, answers-unread, answers-unwritten, answers-end}
 use Rattle.inspect_rows.specs.Rows.{lineRow}
 use Rattle.inspect_rows.proofs.Bounds.{line-first}
+use Rattle.inspect.specs.Header.{header}
 use borrow.Author.Needs.{needs}
 use Rattle.inspect.proofs.answer_input.Statement.{statement}
 use Rattle.inspect.proofs.answer_input.Tie as tie
@@ -23,7 +24,7 @@ use Rattle.inspect.proofs.answer_input.Tie as tie
 abbrev Inv-loop : tie.InvT-loop
 Inv-loop keyed aliases alias-hints likely likely-hints form₀ block₀ piece₀ out₀ input₀ output₀ form block piece out input output =
     (length form ≡ length form₀) × (length block ≡ length block₀) × (length piece ≡ length piece₀) × (length out ≡ length out₀) × Placed (input .taken) (length piece)
-    × ((bs : List Bytes) × Going bs input piece × Printed (rowsText (lineRow keyed aliases likely)) (rows-none (lineRow keyed aliases likely)) bs output)
+    × ((bs : List Bytes) × Going bs input piece × Printed (headed header (rowsText (lineRow keyed aliases likely))) bs output)
 
 abbrev μ-loop : tie.MeasureT-loop
 μ-loop keyed aliases alias-hints likely likely-hints form₀ block₀ piece₀ out₀ input₀ output₀ form block piece out input output =
@@ -32,14 +33,11 @@ abbrev μ-loop : tie.MeasureT-loop
 begin-requires : tie.Need-begin-requires Inv-loop μ-loop
 begin-requires c κs = search needs
 
-begin-requires-2 : tie.Need-begin-requires-2 Inv-loop μ-loop
-begin-requires-2 c κs = search needs
-
 loop-holds : tie.Need-loop-holds Inv-loop μ-loop
 loop-holds c =
-    let b = c .before .begin .ensures in
-    let o = c .begin2 .ensures in
-    (refl, refl, refl, refl, record { behind = b .0 .behind; few = b .0 .few; within = omega (arith, b .0 .within) }, ([], b .1 _, printed-none _ _ _ (o .0) (o .1)))
+    let b = c .begin .ensures in
+    let s = c .before .before .before .before .before .before .before .before .before in
+    (refl, refl, refl, refl, record { behind = b .0 .behind; few = b .0 .few; within = omega (arith, b .0 .within) }, ([], b .1 _, printed-header _ _ (rows-none _) _ (s .pre .6)))
 
 next-requires : tie.Need-next-requires Inv-loop μ-loop
 next-requires c κs = search needs
@@ -64,7 +62,7 @@ returns c =
     let n = c .before .before .before .before .before .before .next in
     let l = c .before .before .before .before .before .before .before .before .before .loop in
     let h = n .ensures .2 (l .inv .5 .0) (l .inv .5 .1) in
-    (l .inv .5 .0, answers-unread _ _ (l .inv .5 .0) (l .output) _ (l .inv .5 .2) (h .broken (failure-of (n .result .last) (sym (c .before .has-failed .ensures) ∙ c .if1 .taken))))
+    record { number = refl; blocks = l .inv .5 .0; given = answers-unread _ (l .inv .5 .0) (l .output) _ (l .inv .5 .2) (h .broken (failure-of (n .result .last) (sym (c .before .has-failed .ensures) ∙ c .if1 .taken))) }
 
 whole-requires : tie.Need-whole-requires Inv-loop μ-loop
 whole-requires c κs = search needs
@@ -77,15 +75,15 @@ slice-aggregate-print-rows c = let h = sym (length-take-le (c .before .whole .re
 
 print-rows-requires : tie.Need-print-rows-requires Inv-loop μ-loop
 print-rows-requires c κs =
-    let s = c .before .before .before .before .before .before .before .before .before .before .before .before .before .before .before .before .before .before .before .before .before .before .before .before in
+    let s = c .before .before .before .before .before .before .before .before .before .before .before .before .before .before .before .before .before .before .before .before .before .before .before in
     let l = c .before .before .before .before .before .before .before .before .before .before .before .before .before .loop in
     (s .pre .0, s .pre .1, s .pre .2, l .inv .0 ∙ s .pre .3, (let k = l .inv .3 in omega (arith, k, s .pre .5)), l .inv .5 .2 .going)
 
 -- what was printed of the piece that was handed over
 piece-rows : (c : tie.After-print-rows Inv-loop μ-loop)
-    → PrintsLines (rowsText (lineRow (c .before .before .before .before .before .before .before .before .before .before .before .before .before .before .before .before .before .before .before .before .before .before .before .before .before .args .keyed) (c .before .before .before .before .before .before .before .before .before .before .before .before .before .before .before .before .before .before .before .before .before .before .before .before .before .args .aliases .now) (c .before .before .before .before .before .before .before .before .before .before .before .before .before .before .before .before .before .before .before .before .before .before .before .before .before .args .likely .now))) (lines (take (c .before .before .before .before .before .before .before .before .before .before .before .next .result .taken .whole) (c .before .before .before .before .before .before .before .before .before .before .before .next .last .1 .1 .0))) (c .before .before .before .before .before .before .before .before .before .before .before .before .before .before .loop .output) (c .print-rows .result)
+    → PrintsLines (rowsText (lineRow (c .before .before .before .before .before .before .before .before .before .before .before .before .before .before .before .before .before .before .before .before .before .before .before .before .args .keyed) (c .before .before .before .before .before .before .before .before .before .before .before .before .before .before .before .before .before .before .before .before .before .before .before .before .args .aliases .now) (c .before .before .before .before .before .before .before .before .before .before .before .before .before .before .before .before .before .before .before .before .before .before .before .before .args .likely .now))) (lines (take (c .before .before .before .before .before .before .before .before .before .before .before .next .result .taken .whole) (c .before .before .before .before .before .before .before .before .before .before .before .next .last .1 .1 .0))) (c .before .before .before .before .before .before .before .before .before .before .before .before .before .before .loop .output) (c .print-rows .result)
 piece-rows c =
-    subst (λ (k : ℕ). PrintsLines (rowsText (lineRow (c .before .before .before .before .before .before .before .before .before .before .before .before .before .before .before .before .before .before .before .before .before .before .before .before .before .args .keyed) (c .before .before .before .before .before .before .before .before .before .before .before .before .before .before .before .before .before .before .before .before .before .before .before .before .before .args .aliases .now) (c .before .before .before .before .before .before .before .before .before .before .before .before .before .before .before .before .before .before .before .before .before .before .before .before .before .args .likely .now))) (lines (take k (c .before .before .before .before .before .before .before .before .before .before .before .next .last .1 .1 .0))) (c .before .before .before .before .before .before .before .before .before .before .before .before .before .before .loop .output) (c .print-rows .result))
+    subst (λ (k : ℕ). PrintsLines (rowsText (lineRow (c .before .before .before .before .before .before .before .before .before .before .before .before .before .before .before .before .before .before .before .before .before .before .before .before .args .keyed) (c .before .before .before .before .before .before .before .before .before .before .before .before .before .before .before .before .before .before .before .before .before .before .before .before .args .aliases .now) (c .before .before .before .before .before .before .before .before .before .before .before .before .before .before .before .before .before .before .before .before .before .before .before .before .args .likely .now))) (lines (take k (c .before .before .before .before .before .before .before .before .before .before .before .next .last .1 .1 .0))) (c .before .before .before .before .before .before .before .before .before .before .before .before .before .before .loop .output) (c .print-rows .result))
     (c .before .before .before .before .whole .ensures) (c .print-rows .ensures)
 
 has-failed-requires-2 : tie.Need-has-failed-requires-2 Inv-loop μ-loop
@@ -111,7 +109,7 @@ returns-2 c =
     let h = n .ensures .2 bs (l .inv .5 .1) in
     let p = piece-rows (c .before .before .before .before .before .before) in
     let w = handed-piece bs _ (n .result) _ h (sym (c .before .before .before .before .before .before .before .before .before .before .before .before .has-failed .ensures) ∙ c .before .before .before .before .before .before .before .before .before .before .before .if1 .left) in
-    (w .0, answers-unwritten _ _ bs _ (l .output) _ _ (l .inv .5 .2) p (rows-append _ _) (w .0) _ (w .1) (sym (c .before .has-failed2 .ensures) ∙ c .if2 .taken))
+    record { number = refl; blocks = w .0; given = answers-unwritten _ bs _ (l .output) _ _ (l .inv .5 .2) p (headed-behind _ _ _ _ (rows-append _ _)) (w .0) _ (w .1) (w .2) (sym (c .before .has-failed2 .ensures) ∙ c .if2 .taken) }
 
 is-ended-requires : tie.Need-is-ended-requires Inv-loop μ-loop
 is-ended-requires c κs = search needs
@@ -136,7 +134,7 @@ returns-3 c =
     let h = n .ensures .2 bs (l .inv .5 .1) in
     let p = piece-rows (c .before .before .before .before .before .before .before .before) in
     let e = end-of (n .result .last) (sym (c .before .is-ended .ensures) ∙ c .if3 .taken) in
-    (bs, answers-end _ _ bs _ (l .output) _ _ (l .inv .5 .2) p (rows-append _ _) (rows-first _ (line-first _ _ _)) _ (h .last e) (h .ended e) (sym (c .before .before .before .has-failed2 .ensures) ∙ c .before .before .if2 .left))
+    record { number = refl; blocks = bs; given = answers-end _ bs _ (l .output) _ _ (l .inv .5 .2) p (headed-behind _ _ _ _ (rows-append _ _)) (headed-first _ _ (rows-first _ (line-first _ _ _))) _ (h .last e) (h .ended e) (sym (c .before .before .before .has-failed2 .ensures) ∙ c .before .before .if2 .left) }
 
 loop-less : tie.Need-loop-less Inv-loop μ-loop
 loop-less c =
@@ -154,7 +152,7 @@ loop-again c =
     let p = piece-rows (c .before .before .before .before .before .before .before .before) in
     let cs = bs ++ (take (n .result .got) (n .last .1 .0) ∷ []) in
     let e = block-of (n .result .last) (sym (c .before .before .before .before .before .before .before .before .before .before .before .before .before .before .has-failed .ensures) ∙ c .before .before .before .before .before .before .before .before .before .before .before .before .before .if1 .left) (sym (c .before .is-ended .ensures) ∙ c .if3 .left) in
-    (search needs, search needs, search needs, search needs, search needs, (cs, h .going e, printed-more _ _ bs _ (l .output) _ _ (l .inv .5 .2) p (rows-append _ _) cs (h .lines e) (sym (c .before .before .before .has-failed2 .ensures) ∙ c .before .before .if2 .left)))
+    (search needs, search needs, search needs, search needs, search needs, (cs, h .going e, printed-more _ bs _ (l .output) _ _ (l .inv .5 .2) p (headed-behind _ _ _ _ (rows-append _ _)) cs (h .lines e) (sym (c .before .before .before .has-failed2 .ensures) ∙ c .before .before .if2 .left)))
 
 pub answer-input-spec : {M : Type 1} → statement M
 answer-input-spec =
@@ -163,7 +161,6 @@ answer-input-spec =
     Inv-loop
     μ-loop
     begin-requires
-    begin-requires-2
     loop-holds
     next-requires
     has-failed-requires

@@ -57,22 +57,17 @@ answer-input-requires c κs =
     let b = c .before .before .before .before .before .before .before .before .block-buffer .ensures in
     let p = c .before .before .before .before .before .before .before .piece-buffer .ensures in
     let o = c .before .before .before .before .before .before .out-buffer .ensures in (
-      c .before .before .before .before .before .before .before .before .before .before .before .before .before .before .before .before .before .before .before .before .pre,
+      c .before .before .before .before .before .before .before .before .before .before .before .before .before .before .before .before .before .before .before .before .pre .0,
       c .before .before .before .before .before .before .before .before .before .before .before .before .before .before .before .fill-hints .ensures,
       c .before .before .before .before .before .before .before .before .before .before .before .fill-hints2 .ensures,
       c .before .before .before .before .before .before .before .before .before .form-buffer .ensures,
       record { some = omega (arith, b); behind = omega (arith, b, p) },
       omega (arith, o),
+      c .before .before .before .before .before .before .before .before .before .before .before .before .before .before .before .before .before .before .before .before .pre .1,
     )
 
-slice-aggregate-status-of : tie.Need-slice-aggregate-status-of
-slice-aggregate-status-of c = search needs
-
-status-of-requires : tie.Need-status-of-requires
-status-of-requires c κs = search needs
-
 returns : tie.Need-returns
-returns c = search needs
+returns c = c .before .before .before .before .answer-input .ensures
 
 pub answer-spec : {M : Type 1} → statement M
 answer-spec =
@@ -95,6 +90,4 @@ answer-spec =
     slice-aggregate-answer-input-5
     slice-aggregate-answer-input-6
     answer-input-requires
-    slice-aggregate-status-of
-    status-of-requires
     returns)

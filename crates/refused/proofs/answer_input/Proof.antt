@@ -10,14 +10,15 @@ use Rattle.table.specs.Lines.{lines}
 use Rattle.lines.specs.Squeeze.{Bytes, handedOver, allLines}
 use Rattle.lines.specs.Reader.{Placed}
 use Rattle.program_io.specs.Handed.{Going}
-use Rattle.program_io.specs.Printed.{PrintsLines}
+use Rattle.program_io.specs.Printed.{PrintsLines, headed}
 use Rattle.program_io.proofs.Laws.{block-of, end-of, failure-of}
-use Rattle.program_io.proofs.Printing.{Printed, printed-none, printed-more, handed-piece, answers-unread, answers-unwritten, answers-end}
+use Rattle.program_io.proofs.Printing.{Printed, printed-header, headed-behind, headed-first, printed-more, handed-piece, answers-unread, answers-unwritten, answers-end}
 use Rattle.refused_rows.specs.Numbered.{rowsFrom, numberAfter}
 use Rattle.refused_rows.specs.Rows.{lineRow}
 use Rattle.refused_rows.proofs.Inputs.{first-rows}
 use Rattle.refused.proofs.Listing.{lists}
 use Rattle.refused.proofs.Numbers.{none, behind, number-more, number-none}
+use Rattle.refused.specs.Header.{header}
 use borrow.Author.Needs.{needs}
 use Rattle.refused.proofs.answer_input.Statement.{statement}
 use Rattle.refused.proofs.answer_input.Tie as tie
@@ -25,7 +26,7 @@ use Rattle.refused.proofs.answer_input.Tie as tie
 abbrev Inv-loop : tie.InvT-loop
 Inv-loop aliases alias-hints likely likely-hints form₀ block₀ piece₀ out₀ input₀ output₀ next₀ form block piece out input output next =
     (length form ≡ length form₀) × (length block ≡ length block₀) × (length piece ≡ length piece₀) × (length out ≡ length out₀) × Placed (input .taken) (length piece)
-    × ((bs : List Bytes) × Going bs input piece × Printed (rowsFrom (lineRow aliases likely) 1) (none (lineRow aliases likely) 1) bs output × (next ≡ numberAfter 1 (allLines (handedOver [] bs))))
+    × ((bs : List Bytes) × Going bs input piece × Printed (headed header (rowsFrom (lineRow aliases likely) 1)) bs output × (next ≡ numberAfter 1 (allLines (handedOver [] bs))))
 
 abbrev μ-loop : tie.MeasureT-loop
 μ-loop aliases alias-hints likely likely-hints form₀ block₀ piece₀ out₀ input₀ output₀ next₀ form block piece out input output next =
@@ -34,14 +35,11 @@ abbrev μ-loop : tie.MeasureT-loop
 begin-requires : tie.Need-begin-requires Inv-loop μ-loop
 begin-requires c κs = search needs
 
-begin-requires-2 : tie.Need-begin-requires-2 Inv-loop μ-loop
-begin-requires-2 c κs = search needs
-
 loop-holds : tie.Need-loop-holds Inv-loop μ-loop
 loop-holds c =
-    let b = c .before .begin .ensures in
-    let o = c .begin2 .ensures in
-    (refl, refl, refl, refl, record { behind = b .0 .behind; few = b .0 .few; within = omega (arith, b .0 .within) }, ([], b .1 _, printed-none _ _ _ (o .0) (o .1), number-none))
+    let b = c .begin .ensures in
+    let s = c .before .before .before .before .before .before .before .before .before in
+    (refl, refl, refl, refl, record { behind = b .0 .behind; few = b .0 .few; within = omega (arith, b .0 .within) }, ([], b .1 _, printed-header _ _ (none _ 1) _ (s .pre .6), number-none))
 
 next-requires : tie.Need-next-requires Inv-loop μ-loop
 next-requires c κs = search needs
@@ -66,7 +64,7 @@ returns c =
     let n = c .before .before .before .before .before .before .next in
     let l = c .before .before .before .before .before .before .before .before .before .loop in
     let h = n .ensures .2 (l .inv .5 .0) (l .inv .5 .1) in
-    (l .inv .5 .0, lists _ _ _ _ _ (n .ensures .1 .most) (answers-unread _ _ (l .inv .5 .0) (l .output) _ (l .inv .5 .2) (h .broken (failure-of (n .result .last) (sym (c .before .has-failed .ensures) ∙ c .if1 .taken)))))
+    record { number = refl; blocks = l .inv .5 .0; given = lists _ _ _ _ _ (n .ensures .1 .most) (answers-unread _ (l .inv .5 .0) (l .output) _ (l .inv .5 .2) (h .broken (failure-of (n .result .last) (sym (c .before .has-failed .ensures) ∙ c .if1 .taken)))) }
 
 whole-requires : tie.Need-whole-requires Inv-loop μ-loop
 whole-requires c κs = search needs
@@ -88,15 +86,15 @@ slice-aggregate-print-rows c = let h = sym (length-take-le (c .before .before .b
 
 print-rows-requires : tie.Need-print-rows-requires Inv-loop μ-loop
 print-rows-requires c κs =
-    let s = c .before .before .before .before .before .before .before .before .before .before .before .before .before .before .before .before .before .before .before .before .before .before .before .before .before .before in
+    let s = c .before .before .before .before .before .before .before .before .before .before .before .before .before .before .before .before .before .before .before .before .before .before .before .before .before in
     let l = c .before .before .before .before .before .before .before .before .before .before .before .before .before .before .before .loop in
     (s .pre .0, s .pre .1, s .pre .2, l .inv .0 ∙ s .pre .3, (let k = l .inv .3 in omega (arith, k, s .pre .5)), l .inv .5 .2 .going)
 
 -- what was printed of the piece that was handed over, and the number behind it
 piece-rows : (c : tie.After-print-rows Inv-loop μ-loop)
-    → PrintsLines (rowsFrom (lineRow (c .before .before .before .before .before .before .before .before .before .before .before .before .before .before .before .before .before .before .before .before .before .before .before .before .before .before .before .args .aliases .now) (c .before .before .before .before .before .before .before .before .before .before .before .before .before .before .before .before .before .before .before .before .before .before .before .before .before .before .before .args .likely .now)) (c .before .before .before .before .before .before .before .before .before .before .before .before .before .before .before .before .loop .next)) (lines (take (c .before .before .before .before .before .before .before .before .before .before .before .before .before .next .result .taken .whole) (c .before .before .before .before .before .before .before .before .before .before .before .before .before .next .last .1 .1 .0))) (c .before .before .before .before .before .before .before .before .before .before .before .before .before .before .before .before .loop .output) (c .print-rows .result .output) × (c .print-rows .result .output .failed ≡ false → c .print-rows .result .next ≡ numberAfter (c .before .before .before .before .before .before .before .before .before .before .before .before .before .before .before .before .loop .next) (lines (take (c .before .before .before .before .before .before .before .before .before .before .before .before .before .next .result .taken .whole) (c .before .before .before .before .before .before .before .before .before .before .before .before .before .next .last .1 .1 .0))))
+    → PrintsLines (rowsFrom (lineRow (c .before .before .before .before .before .before .before .before .before .before .before .before .before .before .before .before .before .before .before .before .before .before .before .before .before .before .args .aliases .now) (c .before .before .before .before .before .before .before .before .before .before .before .before .before .before .before .before .before .before .before .before .before .before .before .before .before .before .args .likely .now)) (c .before .before .before .before .before .before .before .before .before .before .before .before .before .before .before .before .loop .next)) (lines (take (c .before .before .before .before .before .before .before .before .before .before .before .before .before .next .result .taken .whole) (c .before .before .before .before .before .before .before .before .before .before .before .before .before .next .last .1 .1 .0))) (c .before .before .before .before .before .before .before .before .before .before .before .before .before .before .before .before .loop .output) (c .print-rows .result .output) × (c .print-rows .result .output .failed ≡ false → c .print-rows .result .next ≡ numberAfter (c .before .before .before .before .before .before .before .before .before .before .before .before .before .before .before .before .loop .next) (lines (take (c .before .before .before .before .before .before .before .before .before .before .before .before .before .next .result .taken .whole) (c .before .before .before .before .before .before .before .before .before .before .before .before .before .next .last .1 .1 .0))))
 piece-rows c =
-    subst (λ (k : ℕ). PrintsLines (rowsFrom (lineRow (c .before .before .before .before .before .before .before .before .before .before .before .before .before .before .before .before .before .before .before .before .before .before .before .before .before .before .before .args .aliases .now) (c .before .before .before .before .before .before .before .before .before .before .before .before .before .before .before .before .before .before .before .before .before .before .before .before .before .before .before .args .likely .now)) (c .before .before .before .before .before .before .before .before .before .before .before .before .before .before .before .before .loop .next)) (lines (take k (c .before .before .before .before .before .before .before .before .before .before .before .before .before .next .last .1 .1 .0))) (c .before .before .before .before .before .before .before .before .before .before .before .before .before .before .before .before .loop .output) (c .print-rows .result .output) × (c .print-rows .result .output .failed ≡ false → c .print-rows .result .next ≡ numberAfter (c .before .before .before .before .before .before .before .before .before .before .before .before .before .before .before .before .loop .next) (lines (take k (c .before .before .before .before .before .before .before .before .before .before .before .before .before .next .last .1 .1 .0)))))
+    subst (λ (k : ℕ). PrintsLines (rowsFrom (lineRow (c .before .before .before .before .before .before .before .before .before .before .before .before .before .before .before .before .before .before .before .before .before .before .before .before .before .before .args .aliases .now) (c .before .before .before .before .before .before .before .before .before .before .before .before .before .before .before .before .before .before .before .before .before .before .before .before .before .before .args .likely .now)) (c .before .before .before .before .before .before .before .before .before .before .before .before .before .before .before .before .loop .next)) (lines (take k (c .before .before .before .before .before .before .before .before .before .before .before .before .before .next .last .1 .1 .0))) (c .before .before .before .before .before .before .before .before .before .before .before .before .before .before .before .before .loop .output) (c .print-rows .result .output) × (c .print-rows .result .output .failed ≡ false → c .print-rows .result .next ≡ numberAfter (c .before .before .before .before .before .before .before .before .before .before .before .before .before .before .before .before .loop .next) (lines (take k (c .before .before .before .before .before .before .before .before .before .before .before .before .before .next .last .1 .1 .0)))))
     (c .before .before .before .before .before .before .whole .ensures) (c .print-rows .ensures)
 
 has-failed-requires-2 : tie.Need-has-failed-requires-2 Inv-loop μ-loop
@@ -122,7 +120,7 @@ returns-2 c =
     let h = n .ensures .2 bs (l .inv .5 .1) in
     let p = piece-rows (c .before .before .before .before .before .before .before) in
     let w = handed-piece bs _ (n .result) _ h (sym (c .before .before .before .before .before .before .before .before .before .before .before .before .before .before .before .has-failed .ensures) ∙ c .before .before .before .before .before .before .before .before .before .before .before .before .before .before .if1 .left) in
-    (w .0, lists _ _ _ _ _ (n .ensures .1 .most) (answers-unwritten _ _ bs _ (l .output) _ _ (l .inv .5 .2) (p .0) (behind bs (l .next) (l .inv .5 .3) _) (w .0) _ (w .1) (sym (c .before .has-failed2 .ensures) ∙ c .if2 .taken)))
+    record { number = refl; blocks = w .0; given = lists _ _ _ _ _ (n .ensures .1 .most) (answers-unwritten _ bs _ (l .output) _ _ (l .inv .5 .2) (p .0) (headed-behind _ _ _ _ (behind bs (l .next) (l .inv .5 .3) _)) (w .0) _ (w .1) (w .2) (sym (c .before .has-failed2 .ensures) ∙ c .if2 .taken)) }
 
 is-ended-requires : tie.Need-is-ended-requires Inv-loop μ-loop
 is-ended-requires c κs = search needs
@@ -147,7 +145,7 @@ returns-3 c =
     let h = n .ensures .2 bs (l .inv .5 .1) in
     let p = piece-rows (c .before .before .before .before .before .before .before .before .before) in
     let e = end-of (n .result .last) (sym (c .before .is-ended .ensures) ∙ c .if3 .taken) in
-    (bs, lists _ _ _ _ _ (n .ensures .1 .most) (answers-end _ _ bs _ (l .output) _ _ (l .inv .5 .2) (p .0) (behind bs (l .next) (l .inv .5 .3) _) (first-rows _ _ 1) _ (h .last e) (h .ended e) (sym (c .before .before .before .has-failed2 .ensures) ∙ c .before .before .if2 .left)))
+    record { number = refl; blocks = bs; given = lists _ _ _ _ _ (n .ensures .1 .most) (answers-end _ bs _ (l .output) _ _ (l .inv .5 .2) (p .0) (headed-behind _ _ _ _ (behind bs (l .next) (l .inv .5 .3) _)) (headed-first _ _ (first-rows _ _ 1)) _ (h .last e) (h .ended e) (sym (c .before .before .before .has-failed2 .ensures) ∙ c .before .before .if2 .left)) }
 
 loop-less : tie.Need-loop-less Inv-loop μ-loop
 loop-less c =
@@ -172,7 +170,7 @@ loop-again c =
     let k = i .1 in
     let o = i .2 in
     let u = i .3 in
-    (search needs, search needs, search needs, search needs, search needs, (cs, h .going e, printed-more _ _ bs _ (l .output) _ _ (l .inv .5 .2) (p .0) (behind bs (l .next) m _) cs (h .lines e) f, number-more bs (l .next) m _ cs _ (h .lines e) (p .1 f)))
+    (search needs, search needs, search needs, search needs, search needs, (cs, h .going e, printed-more _ bs _ (l .output) _ _ (l .inv .5 .2) (p .0) (headed-behind _ _ _ _ (behind bs (l .next) m _)) cs (h .lines e) f, number-more bs (l .next) m _ cs _ (h .lines e) (p .1 f)))
 
 pub answer-input-spec : {M : Type 1} → statement M
 answer-input-spec =
@@ -181,7 +179,6 @@ answer-input-spec =
     Inv-loop
     μ-loop
     begin-requires
-    begin-requires-2
     loop-holds
     next-requires
     has-failed-requires

@@ -1,6 +1,11 @@
 -- `tables_check::run` meets its contract. Assumes nothing.
-use mathlib.Core.Path.{sym}
+use mathlib.Core.Path.{refl, sym, ap, _∙_}
+use mathlib.Core.List.{[]}
+use Prim.Native.Nat.{ℕ}
+use lib.ListN.{length}
 use lib.Seq.{length-take-le}
+use Rattle.table_report.specs.Line.{told}
+use Rattle.program_io.proofs.Runs.{read-none, is-printed}
 use borrow.Author.Needs.{needs}
 use Rattle.tables_check.proofs.run.Statement.{statement}
 use Rattle.tables_check.proofs.run.Tie as tie
@@ -29,26 +34,25 @@ slice-aggregate-print c = sym (length-take-le _ _ (search needs))
 print-requires : tie.Need-print-requires
 print-requires c κs = search needs
 
-slice-aggregate-refused : tie.Need-slice-aggregate-refused
-slice-aggregate-refused c = search needs
-
-refused-requires : tie.Need-refused-requires
-refused-requires c κs = search needs
-
-returns : tie.Need-returns
-returns c = search needs
-
-slice-aggregate-status-of : tie.Need-slice-aggregate-status-of
-slice-aggregate-status-of c = search needs
-
 begin-requires-2 : tie.Need-begin-requires-2
 begin-requires-2 c κs = search needs
 
-status-of-requires : tie.Need-status-of-requires
-status-of-requires c κs = search needs
-
-returns-2 : tie.Need-returns-2
-returns-2 c = search needs
+returns : tie.Need-returns
+returns c =
+    let v = c .before .before .before .before .before .before .before .before .check in
+    let a = c .before .before .before .before .before .before .before .before .before .before .before .before .args in
+    let l = c .before .before .before .before .before .before .before .line-buffer in
+    let w = c .before .before .before .before .before .write in
+    let b = c .before .before .before .begin in
+    let p = c .before .print in
+    let n = length-take-le (w .result) (w .last .1 .1 .1 .1 .1 .1 .0) (search needs) ∙ w .ensures .0 ∙ ap (λ (k : ℕ). length (told (v .result .number) (v .result .place) (v .result .table) (a .aliases .now) (a .likely .now) (a .parents .now) k)) (l .ensures) in
+    record {
+      read = read-none _ [] (c .begin2 .ensures .1 []);
+      verdict = v .result;
+      checked = v .ensures;
+      number = refl;
+      printed = is-printed (b .result) (p .result) _ _ (b .ensures .0) (p .ensures) n;
+    }
 
 pub run-spec : {M : Type 1} → statement M
 run-spec =
@@ -62,10 +66,5 @@ run-spec =
     array-share-prefix-out
     slice-aggregate-print
     print-requires
-    slice-aggregate-refused
-    refused-requires
-    returns
-    slice-aggregate-status-of
     begin-requires-2
-    status-of-requires
-    returns-2)
+    returns)
