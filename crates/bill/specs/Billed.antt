@@ -24,7 +24,7 @@ pub record Needed (A L : Bytes) (bs : List Bytes) : Type 0 where
   pub last : bs ≡ before ++ (block ∷ [])
   pub unrefused : monthNumber A L (allLines (handedOver [] before)) ≡ 0
 
--- the blocks bs were read, and no more: their bill is refused, whatever comes after them
+-- the bill of the blocks bs, as many bytes as were read, is refused, whatever comes after them
 pub record Refused (A L : Bytes) (bs : List Bytes) (r : Billed) (ks : Bytes) (cs : List ℕ) : Type 0 where
   pub read : Read bs (r .input)
   pub needed : Needed A L bs
@@ -41,7 +41,7 @@ pub record Text (A L : Bytes) (bs : List Bytes) (n : ℕ) (i : Input) (says : By
   pub number : n ≡ monthNumber A L (lines (together bs))
   pub text : says (monthText A L (lines (together bs)))
 
--- Of a refused one, that of the blocks bs, whatever comes after them; no more was read, and nothing over bad tables.
+-- Of a refused one: of the blocks bs, as many bytes as were read, whatever comes after them; over bad tables of none.
 pub record Refusal (A L : Bytes) (bs : List Bytes) (n : ℕ) (i : Input) (says : Bytes → Type 0) : Type 0 where
   pub read : Read bs i
   pub needed : (bs ≡ []) ⊎ Needed A L bs
