@@ -1,6 +1,6 @@
 -- The order of the tests: bytes, sizes, then the walk. Assumes nothing.
 use mathlib.Core.Path.{_≡_, refl, sym, ap, _∙_}
-use mathlib.Core.Bool.{Bool, true, false, not, _||_}
+use mathlib.Core.Bool.{Bool, true, false, not}
 use mathlib.Core.List.{List, [], _∷_}
 use mathlib.Core.Logic.{⊎-elim}
 use mathlib.Core.Option.{Option, none}
@@ -11,17 +11,12 @@ use lib.ListN.{length, getD, drop, drop-of-length-le}
 use lib.Seq.{drop-cons}
 use borrow.Author.Tests.{le-leb, lt-leb}
 use Rattle.standard.specs.Tag.{Tag, headTag, All}
-use Rattle.standard.specs.Grammar.{small, capital, digit, separator}
 use Rattle.standard.specs.Reading.{Fault, fault, firstOf, noBytes, tooLong, clean, unclean, badTag, wrongSize, split, afterFirst, grammarFault, faultOf}
 use Rattle.standard.proofs.General.{bool-cases, clash, le-or-lt}
 use Rattle.standard.proofs.Groups.{Lacks}
 use Rattle.standard.proofs.Faults.{none-badTag}
 use Rattle.standard.proofs.Shapes.{Word}
-use Rattle.subtag.specs.declared.Class.{Class}
-use Rattle.subtag.specs.declared.Class.the-variants.{Small, Capital, Digit, Separator, Other}
-use Rattle.subtag.specs.Bytes.{classOf, isSmall, isCapital, isDigit, isSeparator, isOther}
 use Rattle.subtag.specs.Subtags.{PlainTag}
-use Rattle.subtag.proofs.Bytes.{classed}
 use Rattle.subtag.proofs.Keys.{word-plain, split-words}
 use Rattle.subtag.proofs.Shapes.{wrong-empty, wrong-long, right-size}
 use Rattle.subtag.proofs.Walk.{split-cons, walk-more, walk-end}
@@ -31,18 +26,6 @@ use Rattle.reader.specs.Parts.{refused, outcomeAs, outcome, foundAs}
 use Rattle.reader.specs.Steps.{stepsOf}
 use Rattle.reader.proofs.Parting.{walked}
 use Rattle.reader.proofs.Stepping.{Fine, walked-steps}
-
--- a byte that no identifier has, by its class
-pub foreign-as : (b : ℕ) → not (clean b) ≡ isOther (classOf b)
-unfolding clean
-foreign-as b = let c = classed b in rw (c .small, c .capital, c .digit, c .separator) (go (classOf b))
-  where
-    go : (m : Class) → not ((isSmall m || isCapital m) || (isDigit m || isSeparator m)) ≡ isOther m
-    go Small = refl
-    go Capital = refl
-    go Digit = refl
-    go Separator = refl
-    go Other = refl
 
 -- The bytes from an index on.
 module _ (s : List ℕ) (i : ℕ) (h : i < length s) where

@@ -1,8 +1,8 @@
 -- Laws of truth values, numbers, options and lists that every crate may cite.
 -- Assumes nothing.
-use mathlib.Core.Path.{_≡_, refl, sym, ap}
+use mathlib.Core.Path.{_≡_, refl, sym, ap, _∙_}
 use mathlib.Core.Bool.{Bool, true, false, _&&_, _||_, not}
-use Prim.Native.Nat.{ℕ, _≤_, _<_, suc, compare, Ordering, Ordering·lt, Ordering·eq, Ordering·gt}
+use Prim.Native.Nat.{ℕ, _≤_, _<_, zero, suc, compare, Ordering, Ordering·lt, Ordering·eq, Ordering·gt}
 use native.Mathlib.Omega.{arith}
 use lib.Dec.{T, leb, isLe, isEq}
 use mathlib.Core.Logic.{inr, _⊎_, inl}
@@ -99,3 +99,26 @@ pub pick-nil : (t : Tag) → pick t [] ≡ t
 unfolding pick
 pick-nil [] = refl
 pick-nil (b ∷ t) = refl
+
+-- the numbers below n, the highest first
+unfoldable pub below : ℕ → List ℕ
+below zero = []
+below (suc n) = n ∷ below n
+
+-- what two functions give over a range, they give at each number of it
+pub at-each : {A : Type 0} (f g : ℕ → A) (n : ℕ) → map f (below n) ≡ map g (below n) → (k : ℕ) → k < n → f k ≡ g k
+unfolding below
+at-each f g zero e k h = absurd (omega arith)
+at-each {A = A} f g (suc n) e k h = go (le-or-lt n k) (at-each f g n (ap others e) k)
+  where
+    first : List A → A
+    first [] = f n
+    first (x ∷ xs) = x
+
+    others : List A → List A
+    others [] = []
+    others (x ∷ xs) = xs
+
+    go : (n ≤ k) ⊎ (k < n) → (k < n → f k ≡ g k) → f k ≡ g k
+    go (inl l) below-n = let q : k ≡ n = omega arith in ap f q ∙ ap first e ∙ ap g (sym q)
+    go (inr l) below-n = below-n l

@@ -21,6 +21,7 @@ pub mod Lines
 pub mod Table
 pub mod Listing
 pub mod Theorem
+pub mod Letters
 pub mod Cases
 pub mod Whole
 pub mod Bounds

@@ -1,16 +1,17 @@
 -- The class of a byte decides the standard's tests of it, and its letter case.
 -- Assumes nothing.
-use mathlib.Core.Path.{_≡_, sym, ap, _∙_}
-use mathlib.Core.Bool.{Bool, true, false, cond, _&&_}
+use mathlib.Core.Path.{_≡_, refl, sym, ap, _∙_}
+use mathlib.Core.Bool.{Bool, true, false, not, cond, _&&_, _||_}
 use Prim.Native.Nat.{ℕ, _+_, _-_, _≤_, _<_}
 use native.Mathlib.Omega.{arith}
 use lib.Dec.{leb}
 use borrow.Author.Tests.{le-leb, lt-leb, leb-true, ne-eqb}
 use Rattle.standard.specs.Grammar.{small, capital, digit, separator, lowerByte, upperByte}
+use Rattle.standard.specs.Reading.{clean}
 use Rattle.standard.proofs.General.{bool-cases, and-true}
 use Rattle.subtag.specs.declared.Class.{Class}
 use Rattle.subtag.specs.declared.Class.the-variants.{Small, Capital, Digit, Separator, Other}
-use Rattle.subtag.specs.Bytes.{classOf, isSmall, isCapital, isDigit, isSeparator, normalByte}
+use Rattle.subtag.specs.Bytes.{classOf, isSmall, isCapital, isDigit, isSeparator, isOther, normalByte}
 
 -- a range test from the order facts of its byte
 pub inside : (lo hi b : ℕ) → lo ≤ b → b ≤ hi → (leb lo b && leb b hi) ≡ true
@@ -81,6 +82,18 @@ classed b =
 
     as-other : digit b ≡ false → capital b ≡ false → small b ≡ false → separator b ≡ false → Classed b
     as-other d c s p = let k : classOf b ≡ Other = rw (d, c, s, p) in record { small = s ∙ rw k; capital = c ∙ rw k; digit = d ∙ rw k; separator = p ∙ rw k }
+
+-- a byte that no identifier has, by its class
+pub foreign-as : (b : ℕ) → not (clean b) ≡ isOther (classOf b)
+unfolding clean
+foreign-as b = let c = classed b in rw (c .small, c .capital, c .digit, c .separator) (go (classOf b))
+  where
+    go : (m : Class) → not ((isSmall m || isCapital m) || (isDigit m || isSeparator m)) ≡ isOther m
+    go Small = refl
+    go Capital = refl
+    go Digit = refl
+    go Separator = refl
+    go Other = refl
 
 -- Letter case, by the class of the byte.
 abbrev pub loweredAs : Class → ℕ → ℕ

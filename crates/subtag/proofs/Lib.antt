@@ -1,4 +1,5 @@
 pub mod Bytes
+pub mod Letters
 pub mod Walk
 pub mod Keys
 pub mod Shapes

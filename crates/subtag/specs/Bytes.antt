@@ -1,11 +1,12 @@
 -- The class of a byte, by the standard's ranges; and its letter case.
 -- Assumes nothing.
-use mathlib.Core.Bool.{Bool, true, false, cond}
+use mathlib.Core.Bool.{Bool, true, false, cond, _||_}
 use mathlib.Core.List.{[], _∷_}
 use Prim.Native.Nat.{ℕ, zero, suc}
 use lib.Dec.{ltb}
 use Rattle.standard.specs.Tag.{Tag}
 use Rattle.standard.specs.Grammar.{small, capital, digit, separator, lowerByte, upperByte}
+use Rattle.standard.specs.Letters.{ByteIs}
 use Rattle.subtag.specs.declared.Class.{Class}
 use Rattle.subtag.specs.declared.Class.the-variants.{Small, Capital, Digit, Separator, Other}
 
@@ -53,6 +54,10 @@ isOther Capital = false
 isOther Digit = false
 isOther Separator = false
 isOther Other = true
+
+-- 02, T-05: what a byte of a class is; a letter is a small letter or a capital
+unfoldable pub byClass : Class → ByteIs
+byClass k = record { letter = isSmall k || isCapital k; digit = isDigit k; separator = isSeparator k; none = isOther k; capital = isCapital k }
 
 -- 1 for a letter, and for a digit
 abbrev pub letterOf : Class → ℕ

@@ -21,14 +21,15 @@ pub enum Class {
     Other,
 }
 
+// Whether a byte is a letter, a digit or a separator: nothing else decides it.
 pub fn class_of(b: u8) -> Class
     ensures { λ r. ⌜ r ≡ classOf b ⌝ }
 {
     match b {
-        48..=57 => Class::Digit,
-        65..=90 => Class::Capital,
-        97..=122 => Class::Small,
-        45 | 95 => Class::Separator,
+        b'A'..=b'Z' => Class::Capital,
+        b'a'..=b'z' => Class::Small,
+        b'0'..=b'9' => Class::Digit,
+        b'-' | b'_' => Class::Separator,
         _ => Class::Other,
     }
 }

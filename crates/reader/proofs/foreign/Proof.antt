@@ -1,7 +1,6 @@
 -- `reader::foreign` meets its contract. Assumes nothing.
 use Rattle.subtag.specs.Bytes.{isOther}
-use Rattle.subtag.proofs.Bytes.{by-class}
-use Rattle.reader.proofs.Outcomes.{foreign-as}
+use Rattle.subtag.proofs.Bytes.{by-class, foreign-as}
 use borrow.Author.Needs.{needs}
 use Rattle.reader.proofs.foreign.Statement.{statement}
 use Rattle.reader.proofs.foreign.Tie as tie
