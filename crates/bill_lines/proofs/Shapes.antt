@@ -1,62 +1,55 @@
 -- Laws of a usage line's shape. Assumes nothing.
 use mathlib.Core.Path.{_≡_, refl, sym, ap, _∙_}
-use mathlib.Core.Bool.{Bool, true, false, cond, _&&_}
+use mathlib.Core.Bool.{Bool, true, false, not, cond, _&&_}
 use mathlib.Core.List.{[], _∷_}
 use mathlib.Core.Option.{Option, none, some}
 use Prim.Native.Nat.{ℕ, zero, suc, _+_, _-_, _*_, _≤_, _<_}
 use native.Mathlib.Omega.{arith}
 use lib.Dec.{eqb, leb}
 use lib.ListN.{length, take, drop, getD}
-use borrow.Author.Tests.{le-leb, lt-leb}
+use borrow.Author.Tests.{le-leb, lt-leb, eq-eqb, ne-eqb, eqb-true}
+use Rattle.standard.specs.Grammar.{digit}
 use Rattle.standard.specs.Delivery.{Bytes}
+use Rattle.standard.proofs.General.{bool-cases}
 use Rattle.byte_string.specs.Strings.{endOf}
 use Rattle.bill_rules.specs.Bill.{leading, memberOf, beforeTab, afterTab}
 use Rattle.bill_lines.specs.Shapes.{orZero, memberIf, Shaped}
 
-pub one-low : (d : ℕ) → d < 49 → 0 ≡ orZero (memberOf (d ∷ []))
+pub one-other : (d : ℕ) → digit d ≡ false → 0 ≡ orZero (memberOf (d ∷ []))
 unfolding orZero memberOf leading
-one-low d h = rw (lt-leb 49 d h)
+one-other d e = rw e
 
-pub one-high : (d : ℕ) → 49 ≤ d → 57 < d → 0 ≡ orZero (memberOf (d ∷ []))
+-- 0 is no member, and is the value of the digit 0
+pub one-digit : (d : ℕ) → digit d ≡ true → d - 48 ≡ orZero (memberOf (d ∷ []))
 unfolding orZero memberOf leading
-one-high d l h = rw (le-leb 49 d l, lt-leb d 57 h)
-
-pub one-digit : (d : ℕ) → 49 ≤ d → d ≤ 57 → d - 48 ≡ orZero (memberOf (d ∷ []))
-unfolding orZero memberOf leading
-one-digit d l h = rw (le-leb 49 d l, le-leb d 57 h)
+one-digit d e = bool-cases (eqb d 48) (λ z. let q = eqb-true d 48 z in rw (e, z) (omega arith)) (λ z. rw (e, z))
 
 -- the two digits d and e
 module _ (d e : ℕ) where
-  pub two-first-low : d < 49 → 0 ≡ orZero (memberOf (d ∷ e ∷ []))
+  pub two-zero : d ≡ 48 → 0 ≡ orZero (memberOf (d ∷ e ∷ []))
   unfolding orZero memberOf leading
-  two-first-low h = rw (lt-leb 49 d h)
-
-  pub two-low : 49 ≤ d → d ≤ 54 → e < 48 → 0 ≡ orZero (memberOf (d ∷ e ∷ []))
-  unfolding orZero memberOf leading
-  two-low l m h = rw (le-leb 49 d l, le-leb d 57 (omega arith), lt-leb 48 e h)
-
-  pub two-high : 49 ≤ d → d ≤ 54 → 48 ≤ e → 57 < e → 0 ≡ orZero (memberOf (d ∷ e ∷ []))
-  unfolding orZero memberOf leading
-  two-high l m k h = rw (le-leb 49 d l, le-leb d 57 (omega arith), le-leb 48 e k, lt-leb e 57 h)
-
-  pub two-most : 49 ≤ d → d ≤ 54 → 48 ≤ e → e ≤ 57 → 64 < (d - 48) * 10 + (e - 48) → 0 ≡ orZero (memberOf (d ∷ e ∷ []))
-  unfolding orZero memberOf leading
-  two-most l m k j h = rw (le-leb 49 d l, le-leb d 57 (omega arith), le-leb 48 e k, le-leb e 57 j, lt-leb ((d - 48) * 10 + (e - 48)) 64 h)
-
-  pub two-digits : 49 ≤ d → d ≤ 54 → 48 ≤ e → e ≤ 57 → (d - 48) * 10 + (e - 48) ≤ 64 → (d - 48) * 10 + (e - 48) ≡ orZero (memberOf (d ∷ e ∷ []))
-  unfolding orZero memberOf leading
-  two-digits l m k j h = rw (le-leb 49 d l, le-leb d 57 (omega arith), le-leb 48 e k, le-leb e 57 j, le-leb ((d - 48) * 10 + (e - 48)) 64 h)
-
-  -- seven tens or more are over 64 whatever the other digit is
-  pub two-first-high : 54 < d → 0 ≡ orZero (memberOf (d ∷ e ∷ []))
-  unfolding orZero memberOf
-  two-first-high h = go (leading d) (leb 48 e) (leb e 57)
+  two-zero h = go (digit d)
     where
-      go : (a b c : Bool) → 0 ≡ orZero (cond (a && (b && (c && leb ((d - 48) * 10 + (e - 48)) 64))) (some ((d - 48) * 10 + (e - 48))) none)
-      go true true true = rw (lt-leb ((d - 48) * 10 + (e - 48)) 64 (omega arith))
-      go true true false = refl
-      go true false c = refl
-      go false b c = refl
+      go : (a : Bool) → 0 ≡ orZero (cond ((a && not (eqb d 48)) && (digit e && leb ((d - 48) * 10 + (e - 48)) 64)) (some ((d - 48) * 10 + (e - 48))) none)
+      go true = rw (eq-eqb d 48 h)
+      go false = refl
+
+  pub two-first : digit d ≡ false → 0 ≡ orZero (memberOf (d ∷ e ∷ []))
+  unfolding orZero memberOf leading
+  two-first f = rw f
+
+  module _ (z : d ≡ 48 → ⊥) (f : digit d ≡ true) where
+    pub two-second : digit e ≡ false → 0 ≡ orZero (memberOf (d ∷ e ∷ []))
+    unfolding orZero memberOf leading
+    two-second g = rw (f, ne-eqb d 48 z, g)
+
+    pub two-most : digit e ≡ true → 64 < (d - 48) * 10 + (e - 48) → 0 ≡ orZero (memberOf (d ∷ e ∷ []))
+    unfolding orZero memberOf leading
+    two-most g h = rw (f, ne-eqb d 48 z, g, lt-leb ((d - 48) * 10 + (e - 48)) 64 h)
+
+    pub two-digits : digit e ≡ true → (d - 48) * 10 + (e - 48) ≤ 64 → (d - 48) * 10 + (e - 48) ≡ orZero (memberOf (d ∷ e ∷ []))
+    unfolding orZero memberOf leading
+    two-digits g h = rw (f, ne-eqb d 48 z, g, le-leb ((d - 48) * 10 + (e - 48)) 64 h)
 
 -- the tab
 pub tab-before : (l : Bytes) → beforeTab l ≡ take (endOf 9 l 0) l

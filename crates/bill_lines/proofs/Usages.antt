@@ -5,14 +5,17 @@ use mathlib.Core.List.{[], _∷_}
 use mathlib.Core.Option.{Option, none, some, Option·none-ne-some}
 use Prim.Native.Nat.{ℕ, zero, suc, _+_, _-_, _*_, _≤_}
 use native.Mathlib.Omega.{arith}
-use lib.Dec.{leb}
+use lib.Dec.{eqb, leb}
 use lib.ListN.{length, take, drop, length-drop}
 use lib.Seq.{take-all}
-use borrow.Author.Tests.{leb-true}
+use borrow.Author.Tests.{leb-true, eqb-false}
+use Rattle.standard.specs.Grammar.{digit}
 use Rattle.standard.specs.Identifier.{Tables}
 use Rattle.standard.specs.Delivery.{Bytes}
 use Rattle.standard.proofs.General.{and-true}
+use Rattle.subtag.proofs.Bytes.{digit-in}
 use Rattle.bill_rules.specs.Bill.{leading, memberOf, beforeTab, afterTab, keyOf, usageBy, usageAt, usage}
+use Rattle.bill_rules.proofs.Refusals.{leading-digit}
 use Rattle.bill_lines.specs.declared.shape.Shape.{Shape}
 use Rattle.bill_lines.specs.Shapes.{orZero, memberIf, Shaped}
 use Rattle.bill_lines.specs.Keys.{keyIs}
@@ -29,28 +32,32 @@ pub positive : (n : ℕ) → (n ≡ 0 → ⊥) → 1 ≤ n
 positive zero f = absurd (f refl)
 positive (suc n) f = omega arith
 
+-- the first digit is 1 to 9
+leading-in : (d : ℕ) → leading d ≡ true → (49 ≤ d) × (d ≤ 57)
+leading-in d e =
+    let a = leading-digit d e in
+    let r = digit-in d (a .0) in
+    let z = eqb-false d 48 (a .1) in
+    (omega arith, r .high)
+
 -- a member number is 1 to 64
 pub member-range : (x : Bytes) (m : ℕ) → memberOf x ≡ some m → (1 ≤ m) × (m ≤ 64)
-unfolding memberOf leading
+unfolding memberOf
 member-range [] m e = absurd (Option·none-ne-some m e)
 member-range (d ∷ []) m e =
-    let s = some-if (leb 49 d && leb d 57) (d - 48) m e in
-    let a = and-true (leb 49 d) (leb d 57) (s .0) in
-    let l = leb-true 49 d (a .0) in
-    let h = leb-true d 57 (a .1) in
+    let s = some-if (leading d) (d - 48) m e in
+    let a = leading-in d (s .0) in
     let q = s .1 in
-    (omega arith, omega arith)
+    (omega (arith, a .0), omega (arith, a .1))
 member-range (d ∷ f ∷ []) m e =
     let n = (d - 48) * 10 + (f - 48) in
-    let s = some-if ((leb 49 d && leb d 57) && (leb 48 f && (leb f 57 && leb n 64))) n m e in
-    let a = and-true (leb 49 d && leb d 57) (leb 48 f && (leb f 57 && leb n 64)) (s .0) in
-    let b = and-true (leb 49 d) (leb d 57) (a .0) in
-    let c = and-true (leb 48 f) (leb f 57 && leb n 64) (a .1) in
-    let g = and-true (leb f 57) (leb n 64) (c .1) in
-    let l = leb-true 49 d (b .0) in
-    let h = leb-true n 64 (g .1) in
+    let s = some-if (leading d && (digit f && leb n 64)) n m e in
+    let a = and-true (leading d) (digit f && leb n 64) (s .0) in
+    let b = leading-in d (a .0) in
+    let c = and-true (digit f) (leb n 64) (a .1) in
+    let h = leb-true n 64 (c .1) in
     let q = s .1 in
-    (omega arith, omega arith)
+    (omega (arith, b .0), omega arith)
 member-range (d ∷ f ∷ g ∷ x) m e = absurd (Option·none-ne-some m e)
 
 module _ (T : Tables) (l : Bytes) (r : Shape) (s : Shaped l r) where

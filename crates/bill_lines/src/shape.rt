@@ -1,4 +1,5 @@
 // A usage line: a member number, a tab and an identifier.
+use subtag::is_digit;
 ghost use mathlib.Core.Path.{_≡_};
 ghost use mathlib.Core.List.{[], _∷_};
 ghost use Prim.Native.Nat.{_≤_};
@@ -15,32 +16,26 @@ pub struct Shape {
 pub fn one_digit(d: u8) -> u8
     ensures { λ r. ⌜ (r ≡ orZero (memberOf (d ∷ []))) × (r ≤ 64) ⌝ }
 {
-    if d < 49 {
-        return 0;
+    if is_digit(d) {
+        return d - b'0';
     }
-    if 57 < d {
-        return 0;
-    }
-    d - 48
+    0
 }
 
 // The member that two digits name, or 0.
 pub fn two_digits(d: u8, e: u8) -> u8
     ensures { λ r. ⌜ (r ≡ orZero (memberOf (d ∷ e ∷ []))) × (r ≤ 64) ⌝ }
 {
-    if d < 49 {
+    if d == b'0' {
         return 0;
     }
-    if 54 < d {
+    if !is_digit(d) {
         return 0;
     }
-    if e < 48 {
+    if !is_digit(e) {
         return 0;
     }
-    if 57 < e {
-        return 0;
-    }
-    let n = (d - 48) * 10 + (e - 48);
+    let n = (d - b'0') * 10 + (e - b'0');
     if 64 < n {
         return 0;
     }

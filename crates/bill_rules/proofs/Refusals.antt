@@ -1,13 +1,12 @@
 -- Open this first for the refused lines: there are as many as the bill says, and each has a fault. Assumes nothing.
 use mathlib.Core.Path.{_≡_, refl, sym, ap, _∙_}
-use mathlib.Core.Bool.{Bool, true, false, cond, _&&_}
+use mathlib.Core.Bool.{Bool, true, false, not, cond, _&&_}
 use mathlib.Core.List.{List, [], _∷_}
 use mathlib.Core.Option.{Option, none, some}
 use Prim.Native.Nat.{ℕ, suc, _+_, _-_, _*_}
-use native.Mathlib.Omega.{arith}
 use lib.Dec.{leb, eqb}
 use lib.ListN.{length}
-use borrow.Author.Tests.{leb-true, ne-eqb, le-leb}
+use borrow.Author.Tests.{not-true}
 use Rattle.standard.specs.Tag.{Tag}
 use Rattle.standard.specs.Grammar.{digit}
 use Rattle.standard.specs.Identifier.{Tables, Answer, done, refused, minimised}
@@ -26,12 +25,9 @@ faulty none = false
 faulty (some f) = true
 
 -- a member number is of digits and has no leading zero
-leading-digit : (d : ℕ) → leading d ≡ true → (digit d ≡ true) × (eqb d 48 ≡ false)
-unfolding leading digit
-leading-digit d e =
-    let a = and-true (leb 49 d) (leb d 57) e in
-    let l = leb-true 49 d (a .0) in
-    (rw (le-leb 48 d (omega arith), a .1), ne-eqb d 48 (λ z. omega arith))
+pub leading-digit : (d : ℕ) → leading d ≡ true → (digit d ≡ true) × (eqb d 48 ≡ false)
+unfolding leading
+leading-digit d e = let a = and-true (digit d) (not (eqb d 48)) e in (a .0, not-true (eqb d 48) (a .1))
 
 -- a member that is none is faulty, and one that is something is not
 range-faulty : (d z : Bool) (o : Option ℕ) → (refusing o ≡ false → (d ≡ true) × (z ≡ false)) → refusing o ≡ faulty (cond d (cond z (some zeroFirst) (rangeFault o)) (some noNumber))
@@ -52,15 +48,14 @@ unfolding memberOf refusing faulty
 none-faulty = refl
 
 passes : (d : ℕ) (x : Bytes) → refusing (memberOf (d ∷ x)) ≡ false → (digits (d ∷ x) ≡ true) × (leadingZero (d ∷ x) ≡ false)
-unfolding memberOf digits leadingZero refusing digit
+unfolding memberOf digits leadingZero refusing
 passes d [] h = let a = leading-digit d (one-passed (leading d) (d - 48) h) in (rw (a .0), refl)
 passes d (e ∷ []) h =
     let n = (d - 48) * 10 + (e - 48) in
-    let a = and-true (leading d) (leb 48 e && (leb e 57 && leb n 64)) (one-passed (leading d && (leb 48 e && (leb e 57 && leb n 64))) n h) in
-    let b = and-true (leb 48 e) (leb e 57 && leb n 64) (a .1) in
-    let c = and-true (leb e 57) (leb n 64) (b .1) in
+    let a = and-true (leading d) (digit e && leb n 64) (one-passed (leading d && (digit e && leb n 64)) n h) in
+    let b = and-true (digit e) (leb n 64) (a .1) in
     let f = leading-digit d (a .0) in
-    (rw (f .0, b .0, c .0), f .1)
+    (rw (f .0, b .0), f .1)
 passes d (e ∷ f ∷ x) h = clash {b = true} refl h
 
 member-faulty : (x : Bytes) → refusing (memberOf x) ≡ faulty (memberFault x)

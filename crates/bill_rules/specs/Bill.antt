@@ -7,6 +7,7 @@ use Prim.Native.Nat.{ℕ, zero, suc, _+_, _-_, _*_}
 use lib.Dec.{eqb, leb, ltb}
 use lib.ListN.{length, take}
 use Rattle.standard.specs.Tag.{Tag, same, sortBy, itself}
+use Rattle.standard.specs.Grammar.{digit}
 use Rattle.standard.specs.Identifier.{Three, Tables, Answer, done, refused, maximised, minimised, sameThree}
 use Rattle.standard.specs.Reading.{Read, good, bad, read}
 use Rattle.standard.specs.Delivery.{Bytes}
@@ -17,9 +18,9 @@ pub record Usage : Type 0 where
   pub member : ℕ
   pub key : Tag
 
--- the first byte of a number: 1 to 9
+-- the first byte of a number: a digit, and not 0
 unfoldable pub leading : ℕ → Bool
-leading d = leb 49 d && leb d 57
+leading d = digit d && not (eqb d 48)
 
 -- 02, T-01: a member number is decimal, 1 to 64, without a leading zero.
 unfoldable pub memberOf : Bytes → Option ℕ
@@ -27,7 +28,7 @@ memberOf [] = none
 memberOf (d ∷ []) = cond (leading d) (some (d - 48)) none
 memberOf (d ∷ e ∷ []) =
     let n = (d - 48) * 10 + (e - 48) in
-    cond (leading d && (leb 48 e && (leb e 57 && leb n 64))) (some n) none
+    cond (leading d && (digit e && leb n 64)) (some n) none
 memberOf (d ∷ e ∷ f ∷ x) = none
 
 -- 02, T-01: a member number, a tab and an identifier: the line is cut at its first tab.

@@ -9,7 +9,6 @@ use native.Mathlib.Numerals.{add-one}
 use lib.Dec.{eqb}
 use lib.ListN.{length, drop, getD, drop-of-length-le}
 use lib.Seq.{drop-cons}
-use borrow.Author.Tests.{le-leb, lt-leb}
 use Rattle.standard.specs.Grammar.{digit}
 use Rattle.standard.specs.Delivery.{Bytes}
 use Rattle.bill_rules.specs.Bill.{memberOf}
@@ -19,17 +18,13 @@ use Rattle.bill_lines.proofs.Usages.{member-range}
 
 -- one byte more of digits
 module _ (x : Bytes) (i : ℕ) (h : i < length x) where
-  pub digits-more : 48 ≤ getD x i 0 → getD x i 0 ≤ 57 → digits (drop i x) ≡ digits (drop (i + 1) x)
-  unfolding digits digit
-  digits-more l k = rw (add-one, drop-cons x i 0 h, le-leb 48 (getD x i 0) l, le-leb (getD x i 0) 57 k)
+  pub digits-more : digit (getD x i 0) ≡ true → digits (drop i x) ≡ digits (drop (i + 1) x)
+  unfolding digits
+  digits-more e = rw (add-one, drop-cons x i 0 h, e)
 
-  pub digits-low : getD x i 0 < 48 → digits (drop i x) ≡ false
-  unfolding digits digit
-  digits-low k = rw (drop-cons x i 0 h, lt-leb 48 (getD x i 0) k)
-
-  pub digits-high : 48 ≤ getD x i 0 → 57 < getD x i 0 → digits (drop i x) ≡ false
-  unfolding digits digit
-  digits-high l k = rw (drop-cons x i 0 h, le-leb 48 (getD x i 0) l, lt-leb (getD x i 0) 57 k)
+  pub digits-off : digit (getD x i 0) ≡ false → digits (drop i x) ≡ false
+  unfolding digits
+  digits-off e = rw (drop-cons x i 0 h, e)
 
 pub digits-end : (x : Bytes) (i : ℕ) → length x ≤ i → digits (drop i x) ≡ true
 unfolding digits

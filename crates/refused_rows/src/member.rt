@@ -1,6 +1,7 @@
 // The member of a usage line, and what is wrong with it.
 use bill_lines::shape::one_digit;
 use bill_lines::shape::two_digits;
+use subtag::is_digit;
 ghost use mathlib.Core.Path.{_≡_};
 ghost use Rattle.bill_rules.specs.Bill.{memberOf};
 ghost use Rattle.bill_rules.specs.Refusals.{digits, leadingZero, memberFault};
@@ -28,10 +29,7 @@ fn all_digits(x: &[u8]) -> bool
 {
     let mut i = 0;
     while i < x.len() {
-        if x[i] < 48 {
-            return false;
-        }
-        if 57 < x[i] {
+        if !is_digit(x[i]) {
             return false;
         }
         i += 1;
@@ -46,7 +44,7 @@ fn has_leading_zero(x: &[u8]) -> bool
     if x.len() < 2 {
         return false;
     }
-    x[0] == 48
+    x[0] == b'0'
 }
 
 // The member, or 0.

@@ -70,10 +70,10 @@ fn capitals_of(rest: &[u8]) -> usize
 fn next_count(first: usize, n: usize, b: u8, rest: &[u8]) -> usize
     ensures { λ r. ⌜ r ≡ nextCount first n b (now (rest .entry)) ⌝ }
 {
-    if b == 45 {
+    if b == b'-' {
         return capitals_of(rest);
     }
-    if b == 9 {
+    if b == b'\t' {
         return first;
     }
     if n == 0 {

@@ -72,7 +72,7 @@ fn row_fault(table: Table, row: &[u8]) -> Wrong
         return Wrong::Empty;
     }
     let last = row.len() - 1;
-    if row[last] == 13 {
+    if row[last] == b'\r' {
         return Wrong::Return;
     }
     let tabs = count(row, b'\t');

@@ -41,10 +41,10 @@ fn fits_row(b: u8) -> bool
     if subtag::is_digit(b) {
         return true;
     }
-    if b == 45 {
+    if b == b'-' {
         return true;
     }
-    b == 9
+    b == b'\t'
 }
 
 // Are all bytes such?
@@ -69,7 +69,7 @@ pub(crate) fn line_start(x: &[u8], at: usize) -> usize
     let mut i = at;
     while i > 0 {
         let before = i - 1;
-        if x[before] == 10 {
+        if x[before] == b'\n' {
             return i;
         }
         i = before;
