@@ -50,6 +50,13 @@ fn odd_tables(rng: &mut Rng) -> Vec<Vec<u8>> {
     tables
 }
 
+/// What each of the 256 bytes is.
+fn compare_bytes(tally: &mut Tally) {
+    for byte in 0..=255 {
+        tally.note("byte", test_api::class(byte), second::class_of(byte), &[&[byte]]);
+    }
+}
+
 /// The words of all numbers, with outputs of several lengths: the length, the whole output, and guard bytes around it.
 fn compare_words(tally: &mut Tally) {
     const GUARD: usize = 24;
@@ -112,6 +119,7 @@ fn main() {
         ["folders", into] => files::write_folders(into, 300).expect("written"),
         _ => {
             let mut tally = Tally::default();
+            compare_bytes(&mut tally);
             compare_words(&mut tally);
             compare_tables(&mut tally, 100_000);
             tally.end(&[0, 12, 13, 14])

@@ -1,11 +1,12 @@
 //! The proved functions, called from Rust. Nothing checks these declarations against the Rattle source, so they are few.
 
-use second::Answer;
+use second::{Answer, Class};
 
 extern "C" {
     fn probe_lookup(t: *const u8, t_len: usize, key: *const u8, key_len: usize) -> u64;
     fn probe_hinted(t: *const u8, t_len: usize, key: *const u8, key_len: usize) -> u64;
     fn probe_meaning(number: u8, out: *mut u8, out_len: usize) -> u64;
+    fn probe_class(byte: u8) -> u64;
     fn probe_check(a: *const u8, a_len: usize, l: *const u8, l_len: usize, p: *const u8, p_len: usize) -> u64;
 }
 
@@ -36,4 +37,16 @@ pub fn check(a: &[u8], l: &[u8], p: &[u8]) -> Answer {
 /// Writes the words of a number at the front, and gives their length; 0 where fewer than 80 bytes are lent.
 pub fn meaning(number: u8, out: &mut [u8]) -> usize {
     unsafe { probe_meaning(number, out.as_mut_ptr(), out.len()) as usize }
+}
+
+/// What a byte is.
+pub fn class(byte: u8) -> Class {
+    match unsafe { probe_class(byte) } {
+        0 => Class::None,
+        1 => Class::Small,
+        2 => Class::Capital,
+        3 => Class::Digit,
+        4 => Class::Separator,
+        code => panic!("no class: {code}"),
+    }
 }

@@ -1,5 +1,6 @@
 //! Document 02, T-01: the monthly bill.
 
+use crate::bytes::digit_value;
 use crate::keys::{lines, print, table_line};
 use crate::Tables;
 use std::collections::BTreeMap;
@@ -75,10 +76,9 @@ fn usage(line: &[u8], tables: &Tables) -> Option<(u32, Vec<u8>)> {
 /// A member number: decimal, 1 to 64, no leading zero.
 fn member(text: &[u8]) -> Option<u32> {
     let number = match *text {
-        [ones @ b'1'..=b'9'] => u32::from(ones - b'0'),
-        [tens @ b'1'..=b'9', ones @ b'0'..=b'9'] => {
-            10 * u32::from(tens - b'0') + u32::from(ones - b'0')
-        }
+        [b'0', ..] => return None,
+        [ones] => digit_value(ones)?,
+        [tens, ones] => 10 * digit_value(tens)? + digit_value(ones)?,
         _ => return None,
     };
     (number <= MOST_MEMBERS).then_some(number)

@@ -1,6 +1,7 @@
 //! Document 01, "Canonical form". Points 1 and 2 (`und` for `root` and before
 //! a script, case) are done as the identifier is read; `-` as it is written.
 
+use crate::bytes::lower_text;
 use crate::reading::*;
 use crate::subtag::{Core, Subtag};
 use crate::table::{Kind, Tables};
@@ -86,7 +87,7 @@ impl Identifier {
                     if let Some(language) = language {
                         text.push(b'-');
                         // Inside extensions everything is lower case.
-                        text.extend_from_slice(&language.text().to_ascii_lowercase());
+                        text.extend_from_slice(&lower_text(&language.text()));
                     }
                     append_keyed(&mut text, fields);
                 }

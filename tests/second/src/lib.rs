@@ -1,9 +1,11 @@
 //! A second, independent implementation of the rules of document 01: reading,
 //! the canonical form, maximising, minimising, the chain of parents, the check
-//! of the three tables, and the programs over them; and of the monthly bill of
-//! document 02, T-01, with the list of the lines that it refuses.
+//! of the three tables, and the programs over them; and, of document 02, of the
+//! monthly bill (T-01), with the list of the lines that it refuses, and of what
+//! a byte is (T-05).
 
 pub mod bill;
+pub mod bytes;
 pub mod canonical;
 pub mod chain;
 pub mod damages;
@@ -21,6 +23,7 @@ pub mod trials;
 pub mod words;
 
 pub use bill::bill;
+pub use bytes::{class_of, Class};
 pub use keys::{inspect, keys};
 pub use refused::refused;
 pub use table::{lookup, Tables};

@@ -121,6 +121,17 @@ fn case(line: &str) -> Option<String> {
     let fields: Vec<&str> = line.split('\t').collect();
     let (&operation, fields) = fields.split_first()?;
     match (operation, fields) {
+        ("class", [byte]) => {
+            let [byte] = from_hex(byte)?[..] else { return None };
+            let word = match class_of(byte) {
+                Class::Small => "small",
+                Class::Capital => "capital",
+                Class::Digit => "digit",
+                Class::Separator => "separator",
+                Class::None => "none",
+            };
+            Some(word.to_string())
+        }
         ("read", [id]) => {
             let report = read(&from_hex(id)?);
             let text = |subtag: &[u8]| String::from_utf8_lossy(or_dash(subtag)).into_owned();

@@ -1,5 +1,6 @@
 //! Document 01, "How an identifier is read", with the numbers 1 to 7.
 
+use crate::bytes::{class_of, lower, Class};
 use crate::subtag::*;
 use crate::{Answer, Report};
 
@@ -73,19 +74,18 @@ type Placed<'a> = (usize, &'a [u8]);
 /// "Numbers given back", 1 to 4, in this order; 4 over all subtags, also those
 /// after `x`. Gives the subtags, each of 1 to 8 letters or digits.
 fn part(id: &[u8]) -> Result<Vec<Placed<'_>>, Answer> {
-    let separator = |byte: &u8| matches!(byte, b'-' | b'_');
     if id.is_empty() {
         return Err(Answer::refusal(1, 0));
     }
     if id.len() > LONGEST {
         return Err(Answer::refusal(2, 0));
     }
-    if let Some(place) = id.iter().position(|b| !b.is_ascii_alphanumeric() && !separator(b)) {
+    if let Some(place) = id.iter().position(|&byte| class_of(byte) == Class::None) {
         return Err(Answer::refusal(3, place));
     }
     let mut subtags = Vec::new();
     let mut place = 0;
-    for subtag in id.split(separator) {
+    for subtag in id.split(|&byte| class_of(byte) == Class::Separator) {
         if !(1..=8).contains(&subtag.len()) {
             return Err(Answer::refusal(4, place));
         }
@@ -131,7 +131,7 @@ impl<'a> Subtags<'a> {
 /// "First: language, or script, or the word `root`", then script, region and
 /// variants; nothing of these after `root`.
 fn main_part(subtags: &mut Subtags) -> Result<LanguagePart, Answer> {
-    if subtags.take(|subtag| subtag.eq_ignore_ascii_case(b"root")).is_some() {
+    if subtags.take(|subtag| Subtag::lower(subtag) == Subtag::ROOT).is_some() {
         let core = Core { language: Subtag::UND, script: None, region: None };
         return Ok(LanguagePart { core, variants: vec![] });
     }
@@ -172,7 +172,7 @@ fn extensions(subtags: &mut Subtags) -> Result<Vec<Extension>, Answer> {
             return Err(Answer::refusal(5, place));
         }
         subtags.next += 1;
-        let singleton = subtag[0].to_ascii_lowercase();
+        let singleton = lower(subtag[0]);
         // 6 before 7 at one subtag.
         if extensions.iter().any(|earlier| earlier.singleton == singleton) {
             return Err(Answer::refusal(6, place));

@@ -1,6 +1,7 @@
 //! The program `refused`: each line that the bill counts as refused, and why.
 
 use crate::bill::MOST_MEMBERS;
+use crate::bytes::digit_value;
 use crate::keys::{lines, print, table_line};
 use crate::words::{field, meaning};
 use crate::Tables;
@@ -77,15 +78,15 @@ fn member_fault(member: &[u8]) -> Option<&'static str> {
     if member.is_empty() {
         return Some("no member number");
     }
-    if !member.iter().all(u8::is_ascii_digit) {
+    let digits: Option<Vec<u32>> = member.iter().map(|&byte| digit_value(byte)).collect();
+    let Some(digits) = digits else {
         return Some("the member is no number");
-    }
-    if member.len() > 1 && member[0] == b'0' {
+    };
+    if digits.len() > 1 && digits[0] == 0 {
         return Some("the member begins with 0");
     }
-    let value = member.iter().fold(0u32, |value, digit| {
-        value.saturating_mul(10).saturating_add(u32::from(digit - b'0'))
-    });
+    let value =
+        digits.iter().fold(0u32, |value, &digit| value.saturating_mul(10).saturating_add(digit));
     (!(1..=MOST_MEMBERS).contains(&value)).then_some("the member is not 1 to 64")
 }
 

@@ -1,6 +1,8 @@
 //! Subtags: their shapes, their case, and the three subtags that aliases,
 //! likely rows and parents are about.
 
+use crate::bytes::{class_of, lower, upper, Class};
+
 /// Up to 8 letters or digits, padded with zero bytes, so that the derived
 /// order is ascending byte order.
 #[derive(Clone, Copy, Debug, PartialEq, Eq, PartialOrd, Ord)]
@@ -8,6 +10,7 @@ pub struct Subtag([u8; 8]);
 
 impl Subtag {
     pub const UND: Subtag = Subtag(*b"und\0\0\0\0\0");
+    pub const ROOT: Subtag = Subtag(*b"root\0\0\0\0");
     pub const TRUE: Subtag = Subtag(*b"true\0\0\0\0");
     pub const ZZZZ: Subtag = Subtag(*b"Zzzz\0\0\0\0");
     pub const ZZ: Subtag = Subtag(*b"ZZ\0\0\0\0\0\0");
@@ -20,16 +23,16 @@ impl Subtag {
     }
 
     pub fn lower(text: &[u8]) -> Subtag {
-        Subtag(Subtag::exact(text).0.map(|byte| byte.to_ascii_lowercase()))
+        Subtag(Subtag::exact(text).0.map(lower))
     }
 
     pub fn upper(text: &[u8]) -> Subtag {
-        Subtag(Subtag::exact(text).0.map(|byte| byte.to_ascii_uppercase()))
+        Subtag(Subtag::exact(text).0.map(upper))
     }
 
     pub fn title(text: &[u8]) -> Subtag {
         let mut subtag = Subtag::lower(text);
-        subtag.0[0] = subtag.0[0].to_ascii_uppercase();
+        subtag.0[0] = upper(subtag.0[0]);
         subtag
     }
 
@@ -42,15 +45,15 @@ impl Subtag {
 // The shapes of "How an identifier is read". Case has no meaning here.
 
 fn letters(text: &[u8]) -> bool {
-    text.iter().all(u8::is_ascii_alphabetic)
+    text.iter().all(|&byte| class_of(byte).is_letter())
 }
 
 fn digits(text: &[u8]) -> bool {
-    text.iter().all(u8::is_ascii_digit)
+    text.iter().all(|&byte| class_of(byte) == Class::Digit)
 }
 
 fn letters_or_digits(text: &[u8]) -> bool {
-    text.iter().all(u8::is_ascii_alphanumeric)
+    text.iter().all(|&byte| class_of(byte).is_letter_or_digit())
 }
 
 /// Language: 2, 3 or 5 to 8 letters.
@@ -71,17 +74,17 @@ pub fn is_region(text: &[u8]) -> bool {
 /// Variant: 5 to 8 letters or digits, or a digit and 3 letters or digits.
 pub fn is_variant(text: &[u8]) -> bool {
     letters_or_digits(text)
-        && (matches!(text.len(), 5..=8) || text.len() == 4 && text[0].is_ascii_digit())
+        && (matches!(text.len(), 5..=8) || text.len() == 4 && digits(&text[..1]))
 }
 
 /// Key of a `u` keyword: a letter or digit, then a letter.
 pub fn is_keyword_key(text: &[u8]) -> bool {
-    text.len() == 2 && text[0].is_ascii_alphanumeric() && text[1].is_ascii_alphabetic()
+    text.len() == 2 && letters_or_digits(&text[..1]) && letters(&text[1..])
 }
 
 /// Key of a `t` field: a letter, then a digit.
 pub fn is_field_key(text: &[u8]) -> bool {
-    text.len() == 2 && text[0].is_ascii_alphabetic() && text[1].is_ascii_digit()
+    text.len() == 2 && letters(&text[..1]) && digits(&text[1..])
 }
 
 // The same in canonical case, as the tables have them ("The three tables").

@@ -1,6 +1,7 @@
 //! The program `tables_check`: what the check of the three tables answers, the
 //! row that it refuses, and why.
 
+use crate::bytes::{class_of, lower_text, upper, upper_text};
 use crate::keys::print;
 use crate::table::{Kind, SHAPES};
 use crate::words::{field, meaning};
@@ -49,7 +50,7 @@ fn first_row(bytes: &[u8]) -> &[u8] {
 fn wrong_shape(table: u8, row: &[u8], ended: bool) -> &'static str {
     let tabs = row.iter().filter(|&&byte| byte == b'\t').count();
     let wanted = if table == 1 { 2 } else { 1 };
-    let is_known = |byte: &u8| byte.is_ascii_alphanumeric() || matches!(byte, b'-' | b'\t');
+    let is_known = |&byte: &u8| class_of(byte).is_letter_or_digit() || matches!(byte, b'-' | b'\t');
     if !ended {
         "no line end"
     } else if row.is_empty() {
@@ -84,8 +85,8 @@ fn in_canonical_case(table: u8, row: &[u8]) -> Vec<u8> {
     let recased = |(number, field): (usize, &[u8])| match kind {
         Some(_) if number == 0 => field.to_vec(),
         Some(Kind::Script) => title(field),
-        Some(Kind::Region) => field.to_ascii_uppercase(),
-        Some(Kind::Variant) => field.to_ascii_lowercase(),
+        Some(Kind::Region) => upper_text(field),
+        Some(Kind::Variant) => lower_text(field),
         Some(Kind::Language) | None => core_case(field),
     };
     let fields: Vec<Vec<u8>> = row.split(|&byte| byte == b'\t').enumerate().map(recased).collect();
@@ -93,8 +94,10 @@ fn in_canonical_case(table: u8, row: &[u8]) -> Vec<u8> {
 }
 
 fn title(text: &[u8]) -> Vec<u8> {
-    let mut cased = text.to_ascii_lowercase();
-    cased[..1.min(text.len())].make_ascii_uppercase();
+    let mut cased = lower_text(text);
+    if let Some(first) = cased.first_mut() {
+        *first = upper(*first);
+    }
     cased
 }
 
@@ -104,9 +107,9 @@ fn core_case(text: &[u8]) -> Vec<u8> {
     let subtags = text.split(|&byte| byte == b'-').enumerate();
     let cased: Vec<Vec<u8>> = subtags
         .map(|(number, subtag)| match (number, subtag.len()) {
-            (0, _) => subtag.to_ascii_lowercase(),
+            (0, _) => lower_text(subtag),
             (_, 4) => title(subtag),
-            _ => subtag.to_ascii_uppercase(),
+            _ => upper_text(subtag),
         })
         .collect();
     cased.join(&b'-')

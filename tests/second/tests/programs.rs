@@ -112,6 +112,11 @@ fn cases() {
     for (case, answer) in [
         (format!("read\t{}", hex(b"latn_us-x-a")), "0\t0\tund\tLatn\tUS\t0\t1".to_string()),
         ("read\t".to_string(), "1\t0\t-\t-\t-\t0\t0".to_string()),
+        ("class\t7a".to_string(), "small".to_string()),
+        ("class\t5A".to_string(), "capital".to_string()),
+        ("class\t39".to_string(), "digit".to_string()),
+        ("class\t5f".to_string(), "separator".to_string()),
+        ("class\t00".to_string(), "none".to_string()),
         (format!("lookup\t{likely}\t{}", hex(b"en")), "1\t17\t10".to_string()),
         ("lookup\t\t".to_string(), "0\t0\t0".to_string()),
         (format!("check\t{aliases}\t{likely}\t{parents}"), "0\t0\t0\t0\t0".to_string()),
@@ -144,7 +149,20 @@ fn cases() {
     for wrong in ["read\t0", "read\tzz", "read", "sing\t00", "chain\t\t\t\t-1", "\n"] {
         assert!(!command(&[], wrong.as_bytes()).1, "{wrong}");
     }
+    for wrong in ["class", "class\t", "class\t6", "class\t6162", "class\tzz", "class\t61\t62"] {
+        assert!(!command(&[], wrong.as_bytes()).1, "{wrong}");
+    }
     assert_eq!(command(&[], b""), (vec![], true));
+}
+
+/// Each byte as the case `class`.
+#[test]
+fn classes() {
+    let cases: String = (0..=255).map(|byte| format!("class\t{byte:02x}\n")).collect();
+    let answers: String = (0..=255).map(|byte| format!("{:?}\n", class_of(byte))).collect();
+    let (printed, good) = command(&[], cases.as_bytes());
+    assert!(good);
+    assert_eq!(String::from_utf8(printed).unwrap(), answers.to_lowercase());
 }
 
 #[test]

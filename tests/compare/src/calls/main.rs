@@ -39,6 +39,7 @@ fn main() {
     }
     let mut tally = Tally::default();
     random::variants(&mut tally);
+    random::every_byte(&mut tally);
     random::small_tables(&mut tally, 14_000);
     random::large_tables(&mut tally, 50);
     random::published_tables(&mut tally, &draw::Published::read(), 8_000);

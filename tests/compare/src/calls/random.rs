@@ -91,6 +91,23 @@ pub fn published_tables(tally: &mut Tally, published: &Published, identifiers: u
     }
 }
 
+/// Every byte at every place of identifiers with all kinds of subtags.
+pub fn every_byte(tally: &mut Tally) {
+    let mut rng = Rng::new(20_261_123);
+    let set = draw::good_set(&mut rng);
+    for id in [&b"a"[..], b"und", b"en-Latn-US-1994", b"de_AT_u_foo_ca_buddhist_t_sr_cyrl_k0_abc_x_y_z"] {
+        for at in 0..id.len() {
+            for byte in 0..=255 {
+                let mut id = id.to_vec();
+                id[at] = byte;
+                for operation in OPERATIONS {
+                    compare_lengths(tally, &mut rng, &set, operation, &id, Lengths::Some(1));
+                }
+            }
+        }
+    }
+}
+
 /// 50 variants that become one, and 50 that become others of 8 bytes; each with every output's length.
 pub fn variants(tally: &mut Tally) {
     let keys: Vec<String> = (10..60).map(|n| format!("1a{n}")).collect();
