@@ -1,18 +1,20 @@
 -- Laws of a usage line's shape. Assumes nothing.
 use mathlib.Core.Path.{_≡_, refl, sym, ap, _∙_}
-use mathlib.Core.Bool.{Bool, true, false, not, cond, _&&_}
+use mathlib.Core.Bool.{Bool, true, false}
 use mathlib.Core.List.{[], _∷_}
 use mathlib.Core.Option.{Option, none, some}
 use Prim.Native.Nat.{ℕ, zero, suc, _+_, _-_, _*_, _≤_, _<_}
 use native.Mathlib.Omega.{arith}
 use lib.Dec.{eqb, leb}
 use lib.ListN.{length, take, drop, getD}
-use borrow.Author.Tests.{le-leb, lt-leb, eq-eqb, ne-eqb, eqb-true}
+use borrow.Author.Tests.{le-leb, lt-leb, eqb-true, eqb-false}
 use Rattle.standard.specs.Grammar.{digit}
 use Rattle.standard.specs.Delivery.{Bytes}
 use Rattle.standard.proofs.General.{bool-cases}
 use Rattle.byte_string.specs.Strings.{endOf}
+use Rattle.subtag.proofs.Bytes.{digit-in}
 use Rattle.bill_rules.specs.Bill.{leading, memberOf, beforeTab, afterTab}
+use Rattle.bill_rules.proofs.Refusals.{leading-digit}
 use Rattle.bill_lines.specs.Shapes.{orZero, memberIf, Shaped}
 
 pub one-other : (d : ℕ) → digit d ≡ false → 0 ≡ orZero (memberOf (d ∷ []))
@@ -24,32 +26,44 @@ pub one-digit : (d : ℕ) → digit d ≡ true → d - 48 ≡ orZero (memberOf (
 unfolding orZero memberOf leading
 one-digit d e = bool-cases (eqb d 48) (λ z. let q = eqb-true d 48 z in rw (e, z) (omega arith)) (λ z. rw (e, z))
 
--- the two digits d and e
-module _ (d e : ℕ) where
-  pub two-zero : d ≡ 48 → 0 ≡ orZero (memberOf (d ∷ e ∷ []))
-  unfolding orZero memberOf leading
-  two-zero h = go (digit d)
-    where
-      go : (a : Bool) → 0 ≡ orZero (cond ((a && not (eqb d 48)) && (digit e && leb ((d - 48) * 10 + (e - 48)) 64)) (some ((d - 48) * 10 + (e - 48))) none)
-      go true = rw (eq-eqb d 48 h)
-      go false = refl
+-- the first digit of a number is 1 to 9
+pub leading-in : (d : ℕ) → leading d ≡ true → (49 ≤ d) × (d ≤ 57)
+leading-in d e =
+    let a = leading-digit d e in
+    let r = digit-in d (a .0) in
+    let z = eqb-false d 48 (a .1) in
+    (omega arith, r .high)
 
-  pub two-first : digit d ≡ false → 0 ≡ orZero (memberOf (d ∷ e ∷ []))
-  unfolding orZero memberOf leading
-  two-first f = rw f
+-- a first digit d, which names the member t or none, and a second e
+module _ (d t : ℕ) (q : t ≡ orZero (memberOf (d ∷ []))) where
+  pub tens-none : (e : ℕ) → t ≡ 0 → 0 ≡ orZero (memberOf (d ∷ e ∷ []))
+  unfolding orZero memberOf
+  tens-none e z = bool-cases (leading d) (λ l. absurd (let k : t ≡ d - 48 = q ∙ rw l in let h = leading-in d l in omega (arith, h .0))) (λ l. rw l)
 
-  module _ (z : d ≡ 48 → ⊥) (f : digit d ≡ true) where
-    pub two-second : digit e ≡ false → 0 ≡ orZero (memberOf (d ∷ e ∷ []))
-    unfolding orZero memberOf leading
-    two-second g = rw (f, ne-eqb d 48 z, g)
+  module _ (z : t ≡ 0 → ⊥) where
+    tens-first : leading d ≡ true
+    unfolding orZero memberOf
+    tens-first = bool-cases (leading d) (λ l. l) (λ l. absurd (z (q ∙ rw l)))
 
-    pub two-most : digit e ≡ true → 64 < (d - 48) * 10 + (e - 48) → 0 ≡ orZero (memberOf (d ∷ e ∷ []))
-    unfolding orZero memberOf leading
-    two-most g h = rw (f, ne-eqb d 48 z, g, lt-leb ((d - 48) * 10 + (e - 48)) 64 h)
+    tens-are : t ≡ d - 48
+    unfolding orZero memberOf
+    tens-are = q ∙ rw tens-first
 
-    pub two-digits : digit e ≡ true → (d - 48) * 10 + (e - 48) ≤ 64 → (d - 48) * 10 + (e - 48) ≡ orZero (memberOf (d ∷ e ∷ []))
-    unfolding orZero memberOf leading
-    two-digits g h = rw (f, ne-eqb d 48 z, g, le-leb ((d - 48) * 10 + (e - 48)) 64 h)
+    pub tens-most : t ≤ 9
+    tens-most = let h = leading-in d tens-first in let k = tens-are in omega (arith, h .1)
+
+    module _ (e : ℕ) where
+      pub two-other : digit e ≡ false → 0 ≡ orZero (memberOf (d ∷ e ∷ []))
+      unfolding orZero memberOf
+      two-other g = rw (tens-first, g)
+
+      pub two-over : digit e ≡ true → 64 < t * 10 + (e - 48) → 0 ≡ orZero (memberOf (d ∷ e ∷ []))
+      unfolding orZero memberOf
+      two-over g h = rw (tens-first, g, lt-leb ((d - 48) * 10 + (e - 48)) 64 (rw tens-are at h))
+
+      pub two-digits : digit e ≡ true → t * 10 + (e - 48) ≤ 64 → t * 10 + (e - 48) ≡ orZero (memberOf (d ∷ e ∷ []))
+      unfolding orZero memberOf
+      two-digits g h = rw tens-are (rw (tens-first, g, le-leb ((d - 48) * 10 + (e - 48)) 64 (rw tens-are at h)))
 
 -- the tab
 pub tab-before : (l : Bytes) → beforeTab l ≡ take (endOf 9 l 0) l

@@ -5,21 +5,20 @@ use mathlib.Core.List.{[], _∷_}
 use mathlib.Core.Option.{Option, none, some, Option·none-ne-some}
 use Prim.Native.Nat.{ℕ, zero, suc, _+_, _-_, _*_, _≤_}
 use native.Mathlib.Omega.{arith}
-use lib.Dec.{eqb, leb}
+use lib.Dec.{leb}
 use lib.ListN.{length, take, drop, length-drop}
 use lib.Seq.{take-all}
-use borrow.Author.Tests.{leb-true, eqb-false}
+use borrow.Author.Tests.{leb-true}
 use Rattle.standard.specs.Grammar.{digit}
 use Rattle.standard.specs.Identifier.{Tables}
 use Rattle.standard.specs.Delivery.{Bytes}
 use Rattle.standard.proofs.General.{and-true}
-use Rattle.subtag.proofs.Bytes.{digit-in}
 use Rattle.bill_rules.specs.Bill.{leading, memberOf, beforeTab, afterTab, keyOf, usageBy, usageAt, usage}
-use Rattle.bill_rules.proofs.Refusals.{leading-digit}
 use Rattle.bill_lines.specs.declared.shape.Shape.{Shape}
 use Rattle.bill_lines.specs.Shapes.{orZero, memberIf, Shaped}
 use Rattle.bill_lines.specs.Keys.{keyIs}
 use Rattle.bill_lines.specs.State.{usedBy}
+use Rattle.bill_lines.proofs.Shapes.{leading-in}
 
 number-eq : {m n : ℕ} → _≡_ {A = Option ℕ} (some m) (some n) → m ≡ n
 number-eq e = cc
@@ -31,14 +30,6 @@ some-if false n m e = absurd (Option·none-ne-some m e)
 pub positive : (n : ℕ) → (n ≡ 0 → ⊥) → 1 ≤ n
 positive zero f = absurd (f refl)
 positive (suc n) f = omega arith
-
--- the first digit is 1 to 9
-leading-in : (d : ℕ) → leading d ≡ true → (49 ≤ d) × (d ≤ 57)
-leading-in d e =
-    let a = leading-digit d e in
-    let r = digit-in d (a .0) in
-    let z = eqb-false d 48 (a .1) in
-    (omega arith, r .high)
 
 -- a member number is 1 to 64
 pub member-range : (x : Bytes) (m : ℕ) → memberOf x ≡ some m → (1 ≤ m) × (m ≤ 64)

@@ -26,16 +26,14 @@ pub fn one_digit(d: u8) -> u8
 pub fn two_digits(d: u8, e: u8) -> u8
     ensures { λ r. ⌜ (r ≡ orZero (memberOf (d ∷ e ∷ []))) × (r ≤ 64) ⌝ }
 {
-    if d == b'0' {
-        return 0;
-    }
-    if !is_digit(d) {
+    let tens = one_digit(d);
+    if tens == 0 {
         return 0;
     }
     if !is_digit(e) {
         return 0;
     }
-    let n = (d - b'0') * 10 + (e - b'0');
+    let n = tens * 10 + (e - b'0');
     if 64 < n {
         return 0;
     }
