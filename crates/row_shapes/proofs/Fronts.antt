@@ -397,7 +397,7 @@ module _ (s : List ℕ) (l m n : ℕ) (a : l ≡ languageLen s) (b′ : m ≡ sc
     pub front-parse : parse (take (l + m + n) s) ≡ frontOf
     front-parse = ap parse front-text ∙ parse-print frontOf front-ok
 
-  -- such a text with no letter, digit or separator behind it is read whole
+  -- such a text with nothing behind it, or a byte below `-`, is read whole
   module _ (f : ℕ) (h : f ≤ length s) (k : getD s f 0 < 45) (e : isThree (take f s) ≡ true) where
     pub front-whole : (0 < l) × (f ≡ l + m + n)
     front-whole = go (parse (take f s)) (three-ok (take f s) e) (three-text (take f s) e)

@@ -74,7 +74,8 @@ pub record ThreeAt (s : List ℕ) (r : Three) : Type 0 where
   pub high : r .script ≤ length s
   pub parts : r .ok ≡ true → parse s ≡ three (take (r .language) s) (between s (r .language) (r .script)) (drop (r .script + 1) s)
 
--- the same three at the front of s: where they end; such a text with no letter, digit or separator behind it is read whole
+-- the same three at the front of s: where they end; such a text with nothing behind it, or a byte below `-` as a tab or 0A,
+-- is read whole
 pub record FrontAt (s : List ℕ) (r : Front) : Type 0 where
   pub low : r .language ≤ r .script
   pub mid : r .script ≤ r .end

@@ -101,13 +101,13 @@ pick-nil [] = refl
 pick-nil (b ∷ t) = refl
 
 -- the numbers below n, the highest first
-unfoldable pub below : ℕ → List ℕ
-below zero = []
-below (suc n) = n ∷ below n
+unfoldable pub numbersBelow : ℕ → List ℕ
+numbersBelow zero = []
+numbersBelow (suc n) = n ∷ numbersBelow n
 
--- what two functions give over a range, they give at each number of it
-pub at-each : {A : Type 0} (f g : ℕ → A) (n : ℕ) → map f (below n) ≡ map g (below n) → (k : ℕ) → k < n → f k ≡ g k
-unfolding below
+-- two functions that give the same over a range give the same at each number of it
+pub at-each : {A : Type 0} (f g : ℕ → A) (n : ℕ) → map f (numbersBelow n) ≡ map g (numbersBelow n) → (k : ℕ) → k < n → f k ≡ g k
+unfolding numbersBelow
 at-each f g zero e k h = absurd (omega arith)
 at-each {A = A} f g (suc n) e k h = go (le-or-lt n k) (at-each f g n (ap others e) k)
   where

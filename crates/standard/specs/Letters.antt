@@ -1,5 +1,5 @@
--- 02, T-05: what each byte is, told letter by letter, and by the tests of `Grammar`, which everything else goes by.
--- proofs/Letters.antt proves them equal for all 256 bytes. Assumes nothing.
+-- 02, T-05: what each byte is, told letter by letter, and by the tests of `Grammar` and `Reading`, which everything else goes
+-- by. proofs/Letters.antt proves them equal for all 256 bytes. Assumes nothing.
 use mathlib.Core.Bool.{Bool, false, not, _||_}
 use mathlib.Core.List.{List, [], _∷_}
 use Prim.Native.Nat.{ℕ}

@@ -1,4 +1,4 @@
--- 02, T-05, of the class that `class_of` promises. Assumes nothing.
+-- 02, T-05, of the class that `class_of` promises; to open with standard/proofs/Letters.antt. Assumes nothing.
 use mathlib.Core.Path.{_≡_, _∙_}
 use Prim.Native.Nat.{ℕ, _<_}
 use Rattle.standard.specs.Letters.{byLetters, byTests}

@@ -43,7 +43,14 @@ pub fn is_separator(b: u8) -> bool
 pub fn lower(b: u8) -> u8
     ensures { λ r. ⌜ r ≡ lowerByte b ⌝ }
 {
-    let k = class_of(b);
+    lowered(class_of(b), b)
+}
+
+// A byte of the class k in lower case.
+fn lowered(k: Class, b: u8) -> u8
+    requires { ⌜ k ≡ classOf b ⌝ }
+    ensures { λ r. ⌜ r ≡ lowerByte b ⌝ }
+{
     match k {
         Class::Small => b,
         Class::Capital => b + 32,
@@ -70,10 +77,11 @@ pub(crate) fn upper(b: u8) -> u8
 pub(crate) fn normalise(b: u8) -> u8
     ensures { λ r. ⌜ r ≡ normalByte b ⌝ }
 {
-    if is_separator(b) {
+    let k = class_of(b);
+    if separates(k) {
         return b'-';
     }
-    lower(b)
+    lowered(k, b)
 }
 
 // Does the class part two subtags?
@@ -192,10 +200,11 @@ fn first_of(rest: &[u8]) -> u8
         return 0;
     }
     let b = rest[0];
-    if is_separator(b) {
+    let k = class_of(b);
+    if separates(k) {
         return 0;
     }
-    lower(b)
+    lowered(k, b)
 }
 
 // The subtag at the front of rest, up to the next separator or the end.
@@ -222,7 +231,7 @@ pub fn scan(rest: &[u8]) -> Subtag
         }
         letters += letter(k);
         digits += digit(k);
-        key += wide(lower(b)) * weight;
+        key += wide(lowered(k, b)) * weight;
         weight = weight / 256;
         len += 1;
     }

@@ -1,6 +1,4 @@
--- `subtag::lower` meets its contract, class by class. Assumes nothing.
-use native.Mathlib.Omega.{arith}
-use Rattle.subtag.proofs.Bytes.{lower-as, capital-high}
+-- `subtag::lower` meets its contract. Assumes nothing.
 use borrow.Author.Needs.{needs}
 use Rattle.subtag.proofs.lower.Statement.{statement}
 use Rattle.subtag.proofs.lower.Tie as tie
@@ -8,52 +6,11 @@ use Rattle.subtag.proofs.lower.Tie as tie
 class-of-requires : tie.Need-class-of-requires
 class-of-requires c κs = search needs
 
-enum-told : tie.Need-enum-told
-enum-told c = search needs
-
-enum-told-2 : tie.Need-enum-told-2
-enum-told-2 c = search needs
-
-add-result : tie.Need-add-result
-add-result c = let h = capital-high _ (c .before .before .class-of .ensures) (c .enum-told2 .given .1) in omega arith
-
-enum-told-3 : tie.Need-enum-told-3
-enum-told-3 c = search needs
-
-enum-told-4 : tie.Need-enum-told-4
-enum-told-4 c = search needs
-
-enum-told-5 : tie.Need-enum-told-5
-enum-told-5 c = search needs
+lowered-requires : tie.Need-lowered-requires
+lowered-requires c κs = c .class-of .ensures
 
 returns : tie.Need-returns
-returns c = lower-as _ (c .before .before .class-of .ensures) (c .enum-told .given .1)
-
-returns-2 : tie.Need-returns-2
-returns-2 c = lower-as _ (c .before .before .class-of .ensures) (c .enum-told2 .given .1)
-
-returns-3 : tie.Need-returns-3
-returns-3 c = lower-as _ (c .before .before .class-of .ensures) (c .enum-told3 .given .1)
-
-returns-4 : tie.Need-returns-4
-returns-4 c = lower-as _ (c .before .before .class-of .ensures) (c .enum-told4 .given .1)
-
-returns-5 : tie.Need-returns-5
-returns-5 c = lower-as _ (c .before .before .class-of .ensures) (c .enum-told5 .given .1)
+returns c = c .lowered .ensures
 
 pub lower-spec : {M : Type 1} → statement M
-lower-spec =
-    tie.close
-    (tie.spec
-    class-of-requires
-    enum-told
-    enum-told-2
-    add-result
-    enum-told-3
-    enum-told-4
-    enum-told-5
-    returns
-    returns-2
-    returns-3
-    returns-4
-    returns-5)
+lower-spec = tie.close (tie.spec class-of-requires lowered-requires returns)

@@ -55,8 +55,8 @@ add-digits c =
     let e = c .digit .ensures in
     omega arith
 
-lower-requires : tie.Need-lower-requires Inv-loop μ-loop
-lower-requires c κs = search needs
+lowered-requires : tie.Need-lowered-requires Inv-loop μ-loop
+lowered-requires c κs = c .before .before .before .before .class-of .ensures
 
 wide-requires : tie.Need-wide-requires Inv-loop μ-loop
 wide-requires c κs = search needs
@@ -85,7 +85,7 @@ loop-again c =
     let k = c .before .before .before .before .before .before .class-of in
     scanning.judging-more _ _ _ _ _ _ (l .inv) (k .result) (c .before .before .before .letter .result) (c .before .before .digit .result) (c .wide .result)
     (c .before .before .before .before .before .before .before .before .loop-test .taken) (k .ensures) (sym (c .before .before .before .before .before .separates .ensures) ∙ c .before .before .before .before .if1 .left)
-    (c .before .before .before .letter .ensures) (c .before .before .digit .ensures) (c .wide .ensures .0 ∙ c .before .lower .ensures) (c .wide .ensures .1)
+    (c .before .before .before .letter .ensures) (c .before .before .digit .ensures) (c .wide .ensures .0 ∙ c .before .lowered .ensures) (c .wide .ensures .1)
 
 returns-2 : tie.Need-returns-2 Inv-loop μ-loop
 returns-2 c =
@@ -108,7 +108,7 @@ scan-spec =
     add-letters
     digit-requires
     add-digits
-    lower-requires
+    lowered-requires
     wide-requires
     mul-key
     add-key

@@ -91,11 +91,18 @@ pub fn published_tables(tally: &mut Tally, published: &Published, identifiers: u
     }
 }
 
-/// Every byte at every place of identifiers with all kinds of subtags.
+/// Every byte at every place of some identifiers, which have subtags of all kinds between them.
 pub fn every_byte(tally: &mut Tally) {
     let mut rng = Rng::new(20_261_123);
     let set = draw::good_set(&mut rng);
-    for id in [&b"a"[..], b"und", b"en-Latn-US-1994", b"de_AT_u_foo_ca_buddhist_t_sr_cyrl_k0_abc_x_y_z"] {
+    let ids = [
+        &b"a"[..],
+        b"root-x-a",
+        b"latn-001-abcde",
+        b"en-Latn-US-1994",
+        b"de_AT_u_foo_ca_buddhist_t_sr_cyrl_k0_abc_a_bc_x_y_z",
+    ];
+    for id in ids {
         for at in 0..id.len() {
             for byte in 0..=255 {
                 let mut id = id.to_vec();
