@@ -11,7 +11,7 @@ use lib.ListN.{length, drop}
 use Rattle.standard.specs.Tag.{text, order, same, insertBy, sortBy, headTag, pick, present, replace, onto}
 use Rattle.standard.specs.Grammar.{small, capital, digit, separator, lowerByte, upperByte, every, title, upper, sizeOf, startsWithDigit, oneSize, twoSize, wrongLength, languageSize, isLanguage, kind, kindOf, variantKind, isVariant, isSingleton, isTwo, isKeywordKey, isFieldKey, withTag, grouped, flat, only, others, dropTrue, arrangeKeywords, arrangePart, arrangeFields, arrangeOne, arrange}
 use Rattle.standard.specs.Identifier.{languageAlias, aliased, canonicalVariants, canonicalForm, without, withoutUnknown, complete, orElse, unlessMissing, likelyRow, over, overRow, maximalThree, trial, sameThree, hasThree, minimalThree, part, parts, printedLength, bounded, withThree, filled, then, canonical, maximised, minimised}
-use Rattle.standard.specs.Reading.{optional, rest, tags, joined, print, split, firstOf, noBytes, tooLong, clean, unclean, badTag, wrongSize, member, accept, restFault, start, languageOnly, partFault, alone, groupsFault, wrongKeyword, wrongValue, fieldFault, fieldsFault, extensionFault, privateFault, isX, upTo, from, noLanguage, grammarFault, faultOf, ofKind, find, coreOf, afterFirst, identifierOf, readAs, read}
+use Rattle.standard.specs.Reading.{optional, rest, tags, joined, print, split, firstOf, noBytes, tooLong, clean, unclean, badTag, wrongSize, member, accept, restFault, start, languageOnly, partFault, alone, groupsFault, wrongKeyword, wrongValue, fieldFault, fieldsFault, extensionFault, privateFault, isX, upTo, from, noLanguage, grammarFault, faultBy, faultOf, ofKind, find, coreOf, afterFirst, identifierOf, readAs, read}
 use Rattle.standard.specs.Report.{Report, privateCount, reportOf, report}
 use Rattle.standard.specs.Delivery.{Bytes, Given, given}
 use Rattle.standard.specs.Chain.{allButLast, shorter, parentOf, parent, isUndAlone, chain, reaches}
@@ -116,7 +116,7 @@ cases =
     canonicalised "sh" (is "sr-Latn") ∷
     canonicalised "en-US-u-KN-true-ca-gregory" (is "en-US-u-ca-gregory-kn") ∷
     canonicalised "ja-Latn-heploc-alalc97" (is "ja-Latn-alalc97") ∷
-    canonicalised "en-US-Latn" (refused-at 5 6) ∷
+    canonicalised "en-US-Latn" (refused-at 15 6) ∷
     canonicalised "en-1994-1994" (refused-at 6 8) ∷
     canonicalised "en-u" (refused-at 7 3) ∷
     maximal "zh-TW" (is "zh-Hant-TW") ∷
@@ -128,7 +128,7 @@ cases =
     -- the other short examples of document 01
     canonicalised "latn_us" (is "und-Latn-US") ∷
     canonicalised "root" (is "und") ∷
-    canonicalised "root-US" (refused-at 5 5) ∷
+    canonicalised "root-US" (refused-at 15 5) ∷
     maximal "en-Zzzz-GB" (is "en-Latn-GB") ∷
     maximal "fr" (refused-at 8 0) ∷
     maximal "fr-Latn-FR" (is "fr-Latn-FR") ∷
@@ -140,7 +140,7 @@ cases =
     canonicalised "en-t-fr-latn-fonipa-1994-m0-true-k0-dvorak-a-foo-x-a-B" (is "en-a-foo-t-fr-latn-1994-fonipa-k0-dvorak-m0-true-x-a-b") ∷
     canonicalised "en-t-m0-m1-abc" (refused-at 7 5) ∷
     canonicalised "en-t-m0-abc-m0" (refused-at 6 12) ∷
-    canonicalised "en-t-k0-ab" (refused-at 5 8) ∷
+    canonicalised "en-t-k0-ab" (refused-at 16 8) ∷
     canonicalised "en-a-bb-a" (refused-at 6 8) ∷
     canonicalised "en-t-m0" (refused-at 7 5) ∷
     canonicalised "en-u-u" (refused-at 7 3) ∷
@@ -152,11 +152,22 @@ cases =
     canonicalised "en-" (refused-at 4 3) ∷
     canonicalised "en-@" (refused-at 3 3) ∷
     canonicalised "" (refused-at 1 0) ∷
-    canonicalised "en-u-foo-a1" (refused-at 5 9) ∷
+    canonicalised "en-u-foo-a1" (refused-at 16 9) ∷
     canonicalised "en-u-1a" (is "en-u-1a") ∷
-    canonicalised "en-t-11-abc" (refused-at 5 5) ∷
+    canonicalised "en-t-11-abc" (refused-at 16 5) ∷
     canonicalised "abcde" (is "abcde") ∷
-    canonicalised "en-ab1c" (refused-at 5 3) ∷
+    canonicalised "en-ab1c" (refused-at 15 3) ∷
+    -- 02, T-03: 5 for the first subtag, 15 for a later one before any singleton, 16 for one after a singleton
+    canonicalised "1994" (refused-at 5 0) ∷
+    canonicalised "a" (refused-at 5 0) ∷
+    canonicalised "u-ca-abc" (refused-at 5 0) ∷
+    canonicalised "en-abc" (refused-at 15 3) ∷
+    canonicalised "latn-latn" (refused-at 15 5) ∷
+    canonicalised "root-US-u" (refused-at 15 5) ∷
+    canonicalised "en-t-root" (refused-at 16 5) ∷
+    canonicalised "en-t-en-us-latn" (refused-at 16 11) ∷
+    canonicalised "en-u-ca-12" (refused-at 16 8) ∷
+    canonicalised "en-a-bcd-u-a1-a-bcd" (refused-at 16 11) ∷
     minimal "en-Latn-US-x-true" (is "en-x-true") ∷
     tables [] [] [] passes ∷
     tables ("language\tiw\the" ∷ "language\tund\ten" ∷ []) [] [] (table-refused 12 1 15) ∷
@@ -181,10 +192,10 @@ cases =
     []
 
 pub cases-hold : map got cases ≡ map want cases
-unfolding table twice aliases likely parents lent refuses written expected want got cases given privateCount reportOf report locatedFrom located order same insertBy sortBy headTag pick present replace onto small capital digit separator lowerByte upperByte every title upper sizeOf startsWithDigit oneSize twoSize wrongLength languageSize isLanguage kind kindOf variantKind isVariant isSingleton isTwo isKeywordKey isFieldKey withTag grouped flat only others dropTrue arrangeKeywords arrangePart arrangeFields arrangeOne arrange languageAlias aliased canonicalVariants canonicalForm without withoutUnknown complete orElse unlessMissing likelyRow over overRow maximalThree trial sameThree hasThree minimalThree part parts printedLength bounded withThree filled then canonical maximised minimised optional rest tags joined print split firstOf noBytes tooLong clean unclean badTag wrongSize member accept restFault start languageOnly partFault alone groupsFault wrongKeyword wrongValue fieldFault fieldsFault extensionFault privateFault isX upTo from noLanguage grammarFault faultOf ofKind find coreOf afterFirst identifierOf readAs read allButLast shorter parentOf parent isUndAlone chain reaches pieces after lookup rows lower inCanonicalCase findInCase threeOf parse printThree isThree parsed tablesOf isWord languageIsUnd isVariantTag aliasShape likelyShape parentShape isNone unaliased aliasFree likelyFree parentFree rowKey above rowsFault clashFault tooBig inTable firstTable tableNumber shapeOf freeOf inUse each tested sizeFault shapeFault freeFault check operate made makeOf make identifier printLine listing chainOf listed chainMade chainFrom afterCheck canonicaliseMade maximiseMade minimiseMade listMade checkMade
+unfolding table twice aliases likely parents lent refuses written expected want got cases given privateCount reportOf report locatedFrom located order same insertBy sortBy headTag pick present replace onto small capital digit separator lowerByte upperByte every title upper sizeOf startsWithDigit oneSize twoSize wrongLength languageSize isLanguage kind kindOf variantKind isVariant isSingleton isTwo isKeywordKey isFieldKey withTag grouped flat only others dropTrue arrangeKeywords arrangePart arrangeFields arrangeOne arrange languageAlias aliased canonicalVariants canonicalForm without withoutUnknown complete orElse unlessMissing likelyRow over overRow maximalThree trial sameThree hasThree minimalThree part parts printedLength bounded withThree filled then canonical maximised minimised optional rest tags joined print split firstOf noBytes tooLong clean unclean badTag wrongSize member accept restFault start languageOnly partFault alone groupsFault wrongKeyword wrongValue fieldFault fieldsFault extensionFault privateFault isX upTo from noLanguage grammarFault faultBy faultOf ofKind find coreOf afterFirst identifierOf readAs read allButLast shorter parentOf parent isUndAlone chain reaches pieces after lookup rows lower inCanonicalCase findInCase threeOf parse printThree isThree parsed tablesOf isWord languageIsUnd isVariantTag aliasShape likelyShape parentShape isNone unaliased aliasFree likelyFree parentFree rowKey above rowsFault clashFault tooBig inTable firstTable tableNumber shapeOf freeOf inUse each tested sizeFault shapeFault freeFault check operate made makeOf make identifier printLine listing chainOf listed chainMade chainFrom afterCheck canonicaliseMade maximiseMade minimiseMade listMade checkMade
 cases-hold = refl
 
 -- document 01's tables pass, so that demand 3 holds of something
 pub tables-pass : Path (Option TableFault) (check toCheck aliases likely parents) none
-unfolding table aliases likely parents order same insertBy sortBy headTag pick present replace onto small capital digit separator lowerByte upperByte every title upper sizeOf startsWithDigit oneSize twoSize wrongLength languageSize isLanguage kind kindOf variantKind isVariant isSingleton isTwo isKeywordKey isFieldKey withTag grouped flat only others dropTrue arrangeKeywords arrangePart arrangeFields arrangeOne arrange languageAlias aliased canonicalVariants canonicalForm without withoutUnknown complete orElse unlessMissing likelyRow over overRow maximalThree trial sameThree hasThree minimalThree part parts printedLength bounded withThree filled then canonical maximised minimised optional rest tags joined print split firstOf noBytes tooLong clean unclean badTag wrongSize member accept restFault start languageOnly partFault alone groupsFault wrongKeyword wrongValue fieldFault fieldsFault extensionFault privateFault isX upTo from noLanguage grammarFault faultOf ofKind find coreOf afterFirst identifierOf readAs read allButLast shorter parentOf parent isUndAlone chain reaches pieces after lookup rows lower inCanonicalCase findInCase threeOf parse printThree isThree parsed tablesOf isWord languageIsUnd isVariantTag aliasShape likelyShape parentShape isNone unaliased aliasFree likelyFree parentFree rowKey above rowsFault clashFault tooBig inTable firstTable tableNumber shapeOf freeOf inUse each tested sizeFault shapeFault freeFault check operate made makeOf make identifier printLine listing chainOf listed chainMade chainFrom afterCheck canonicaliseMade maximiseMade minimiseMade listMade checkMade
+unfolding table aliases likely parents order same insertBy sortBy headTag pick present replace onto small capital digit separator lowerByte upperByte every title upper sizeOf startsWithDigit oneSize twoSize wrongLength languageSize isLanguage kind kindOf variantKind isVariant isSingleton isTwo isKeywordKey isFieldKey withTag grouped flat only others dropTrue arrangeKeywords arrangePart arrangeFields arrangeOne arrange languageAlias aliased canonicalVariants canonicalForm without withoutUnknown complete orElse unlessMissing likelyRow over overRow maximalThree trial sameThree hasThree minimalThree part parts printedLength bounded withThree filled then canonical maximised minimised optional rest tags joined print split firstOf noBytes tooLong clean unclean badTag wrongSize member accept restFault start languageOnly partFault alone groupsFault wrongKeyword wrongValue fieldFault fieldsFault extensionFault privateFault isX upTo from noLanguage grammarFault faultBy faultOf ofKind find coreOf afterFirst identifierOf readAs read allButLast shorter parentOf parent isUndAlone chain reaches pieces after lookup rows lower inCanonicalCase findInCase threeOf parse printThree isThree parsed tablesOf isWord languageIsUnd isVariantTag aliasShape likelyShape parentShape isNone unaliased aliasFree likelyFree parentFree rowKey above rowsFault clashFault tooBig inTable firstTable tableNumber shapeOf freeOf inUse each tested sizeFault shapeFault freeFault check operate made makeOf make identifier printLine listing chainOf listed chainMade chainFrom afterCheck canonicaliseMade maximiseMade minimiseMade listMade checkMade
 tables-pass = refl

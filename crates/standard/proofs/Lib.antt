@@ -22,6 +22,7 @@ pub mod Table
 pub mod Listing
 pub mod Theorem
 pub mod Letters
+pub mod Numbering
 pub mod Cases
 pub mod Whole
 pub mod Bounds

@@ -1,5 +1,5 @@
--- The numbers of refusals: reading's are 1 to 7, the tables' 11 to 14, and no refusal has a result's numbers, 0 and 10.
--- So an answer is 0 or 10 exactly where there is a result. Assumes nothing.
+-- The numbers of refusals: reading's are 1 to 7, 15 and 16, the tables' 11 to 14, and no refusal has a result's numbers,
+-- 0 and 10. So an answer is 0 or 10 exactly where there is a result. Assumes nothing.
 use mathlib.Core.Path.{_≡_, refl, subst}
 use mathlib.Core.Bool.{Bool, true, false, cond, _&&_}
 use mathlib.Core.Logic.{_↔_, _⊎_, inl, inr}
@@ -12,7 +12,7 @@ use lib.ListN.{length}
 use Rattle.standard.specs.Tag.{Tag, same, headTag, All}
 use Rattle.standard.specs.Grammar.{grouped, uTag, tTag, isSingleton, isFieldKey, kindOf, isVariant}
 use Rattle.standard.specs.Identifier.{Identifier, Tables, Answer, done, refused, bounded, printedLength, filled, then, canonical, maximised, minimised, withThree, Three, parts}
-use Rattle.standard.specs.Reading.{Fault, firstOf, noBytes, tooLong, clean, unclean, badTag, wrongSize, member, Stage, accept, restFault, start, languageOnly, partFault, alone, groupsFault, wrongKeyword, wrongValue, fieldFault, fieldsFault, extensionFault, privateFault, isX, upTo, from, noLanguage, grammarFault, faultOf, split, Read, good, bad, readAs, read, identifierOf}
+use Rattle.standard.specs.Reading.{Fault, firstOf, noBytes, tooLong, clean, unclean, badTag, wrongSize, member, Stage, accept, restFault, start, languageOnly, byPart, partFault, alone, groupsFault, wrongKeyword, wrongValue, fieldFault, fieldsFault, extensionFault, privateFault, isX, upTo, from, noLanguage, grammarFault, faultBy, faultOf, split, Read, good, bad, readAs, read, identifierOf}
 use Rattle.standard.specs.Delivery.{Bytes, Made, result, refusal, given}
 use Rattle.standard.specs.Calls.{Operation, canonicalise, maximise, minimise}
 use Rattle.standard.specs.Table.{TableFault, rowsFault, clashFault, tooBig, inTable, sizeFault, shapeFault, freeFault, check, Use, inUse, pieces, rowKey, above, toCanonicalise, toMaximise, toChain}
@@ -28,115 +28,139 @@ unfoldable pub Within : ℕ → ℕ → Option Fault → Type 0
 Within lo hi none = Unit {0}
 Within lo hi (some f) = (lo ≤ f .number) × (f .number ≤ hi)
 
-first-within : (a b : Option Fault) → Within 1 7 a → Within 1 7 b → Within 1 7 (firstOf a b)
-unfolding firstOf Within
+-- 02, T-03: reading's numbers are 1 to 7, 15 and 16
+unfoldable pub ReadingNumber : ℕ → Type 0
+ReadingNumber n = (1 ≤ n) × ((n ≤ 7) ⊎ ((15 ≤ n) × (n ≤ 16)))
+
+-- a fault of reading has such a number
+unfoldable pub ReadingFault : Option Fault → Type 0
+ReadingFault none = Unit {0}
+ReadingFault (some f) = ReadingNumber (f .number)
+
+small-number : (n : ℕ) → 1 ≤ n → n ≤ 7 → ReadingNumber n
+unfolding ReadingNumber
+small-number n h k = (h, inl k)
+
+five : ReadingNumber 5
+five = small-number 5 (omega arith) (omega arith)
+
+fifteen : ReadingNumber 15
+unfolding ReadingNumber
+fifteen = (omega arith, inr (omega arith, omega arith))
+
+sixteen : ReadingNumber 16
+unfolding ReadingNumber
+sixteen = (omega arith, inr (omega arith, omega arith))
+
+first-within : (a b : Option Fault) → ReadingFault a → ReadingFault b → ReadingFault (firstOf a b)
+unfolding firstOf ReadingFault ReadingNumber
 first-within none b h k = k
 first-within (some f) b h k = h
 
-tag-within : (n : ℕ) (p : Tag → Bool) (at : ℕ) (ts : List Tag) → 1 ≤ n → n ≤ 7 → Within 1 7 (badTag n p at ts)
-unfolding badTag Within
-tag-within n p at [] h k = tt
-tag-within n p at (t ∷ ts) h k = go (p t) (tag-within n p (at + suc (length t)) ts h k)
+tag-within : (n : ℕ) (p : Tag → Bool) (at : ℕ) (ts : List Tag) → ReadingNumber n → ReadingFault (badTag n p at ts)
+unfolding badTag ReadingFault ReadingNumber
+tag-within n p at [] h = tt
+tag-within n p at (t ∷ ts) h = go (p t) (tag-within n p (at + suc (length t)) ts h)
   where
-    go : (b : Bool) → Within 1 7 (badTag n p (at + suc (length t)) ts) → Within 1 7 (elim b [ true ↦ some (record { number = n; place = at }) | false ↦ badTag n p (at + suc (length t)) ts ])
-    go true next = (h, k)
+    go : (b : Bool) → ReadingFault (badTag n p (at + suc (length t)) ts) → ReadingFault (elim b [ true ↦ some (record { number = n; place = at }) | false ↦ badTag n p (at + suc (length t)) ts ])
+    go true next = h
     go false next = next
 
-unclean-within : (at : ℕ) (x : List ℕ) → Within 1 7 (unclean at x)
-unfolding unclean Within
+unclean-within : (at : ℕ) (x : List ℕ) → ReadingFault (unclean at x)
+unfolding unclean ReadingFault ReadingNumber
 unclean-within at [] = tt
 unclean-within at (b ∷ bs) = go (clean b) (unclean-within (suc at) bs)
   where
-    go : (c : Bool) → Within 1 7 (unclean (suc at) bs) → Within 1 7 (elim c [ true ↦ unclean (suc at) bs | false ↦ some (record { number = 3; place = at }) ])
+    go : (c : Bool) → ReadingFault (unclean (suc at) bs) → ReadingFault (elim c [ true ↦ unclean (suc at) bs | false ↦ some (record { number = 3; place = at }) ])
     go true next = next
-    go false next = (omega arith, omega arith)
+    go false next = (omega arith, inl (omega arith))
 
-rest-within : (st : Stage) (seen : List Tag) (at : ℕ) (ts : List Tag) → Within 1 7 (restFault st seen at ts)
-unfolding restFault Within
-rest-within st seen at [] = tt
-rest-within st seen at (t ∷ ts) = go (accept st (kindOf t)) (isVariant t && member t seen) (λ next more. rest-within next more (at + suc (length t)) ts)
+rest-within : (n : ℕ) → ReadingNumber n → (st : Stage) (seen : List Tag) (at : ℕ) (ts : List Tag) → ReadingFault (restFault n st seen at ts)
+unfolding restFault ReadingFault ReadingNumber
+rest-within n h st seen at [] = tt
+rest-within n h st seen at (t ∷ ts) = go (accept st (kindOf t)) (isVariant t && member t seen) (λ next more. rest-within n h next more (at + suc (length t)) ts)
   where
-    go : (o : Option Stage) (b : Bool) → ((next : Stage) (more : List Tag) → Within 1 7 (restFault next more (at + suc (length t)) ts))
-        → Within 1 7 (elim o [ none ↦ some (record { number = 5; place = at }) | some next ↦ elim b [ true ↦ some (record { number = 6; place = at }) | false ↦ restFault next (elim (isVariant t) [ true ↦ t ∷ seen | false ↦ seen ]) (at + suc (length t)) ts ] ])
-    go none b more = (omega arith, omega arith)
-    go (some next) true more = (omega arith, omega arith)
+    go : (o : Option Stage) (b : Bool) → ((next : Stage) (more : List Tag) → ReadingFault (restFault n next more (at + suc (length t)) ts))
+        → ReadingFault (elim o [ none ↦ some (record { number = n; place = at }) | some next ↦ elim b [ true ↦ some (record { number = 6; place = at }) | false ↦ restFault n next (elim (isVariant t) [ true ↦ t ∷ seen | false ↦ seen ]) (at + suc (length t)) ts ] ])
+    go none b more = h
+    go (some next) true more = (omega arith, inl (omega arith))
     go (some next) false more = more next _
 
-part-within : (first : Tag → Option Stage) (at : ℕ) (ts : List Tag) → Within 1 7 (partFault first at ts)
-unfolding partFault Within
-part-within first at [] = tt
-part-within first at (t ∷ ts) = go (first t)
+part-within : (m n : ℕ) → ReadingNumber m → ReadingNumber n → (first : Tag → Option Stage) (at : ℕ) (ts : List Tag) → ReadingFault (partFault m n first at ts)
+unfolding partFault ReadingFault ReadingNumber
+part-within m n h k first at [] = tt
+part-within m n h k first at (t ∷ ts) = go (first t)
   where
-    go : (o : Option Stage) → Within 1 7 (elim o [ none ↦ some (record { number = 5; place = at }) | some st ↦ restFault st [] (at + suc (length t)) ts ])
-    go none = (omega arith, omega arith)
-    go (some st) = rest-within st [] (at + suc (length t)) ts
+    go : (o : Option Stage) → ReadingFault (elim o [ none ↦ some (record { number = m; place = at }) | some st ↦ restFault n st [] (at + suc (length t)) ts ])
+    go none = h
+    go (some st) = rest-within n k st [] (at + suc (length t)) ts
 
-groups-within : (inner : ℕ → List Tag → Option Fault) → ((n : ℕ) (g : List Tag) → Within 1 7 (inner n g))
-    → (seen : List Tag) (at : ℕ) (gs : List (List Tag)) → Within 1 7 (groupsFault inner seen at gs)
-unfolding groupsFault Within
+groups-within : (inner : ℕ → List Tag → Option Fault) → ((n : ℕ) (g : List Tag) → ReadingFault (inner n g))
+    → (seen : List Tag) (at : ℕ) (gs : List (List Tag)) → ReadingFault (groupsFault inner seen at gs)
+unfolding groupsFault ReadingFault ReadingNumber
 groups-within inner h seen at [] = tt
 groups-within inner h seen at (g ∷ gs) = go (member (headTag g) seen) (alone g) (groups-within inner h (headTag g ∷ seen) (at + parts g) gs)
   where
-    go : (a b : Bool) → Within 1 7 (groupsFault inner (headTag g ∷ seen) (at + parts g) gs)
-        → Within 1 7 (elim a [ true ↦ some (record { number = 6; place = at }) | false ↦ elim b [ true ↦ some (record { number = 7; place = at }) | false ↦ firstOf (inner at g) (groupsFault inner (headTag g ∷ seen) (at + parts g) gs) ] ])
-    go true b next = (omega arith, omega arith)
-    go false true next = (omega arith, omega arith)
+    go : (a b : Bool) → ReadingFault (groupsFault inner (headTag g ∷ seen) (at + parts g) gs)
+        → ReadingFault (elim a [ true ↦ some (record { number = 6; place = at }) | false ↦ elim b [ true ↦ some (record { number = 7; place = at }) | false ↦ firstOf (inner at g) (groupsFault inner (headTag g ∷ seen) (at + parts g) gs) ] ])
+    go true b next = (omega arith, inl (omega arith))
+    go false true next = (omega arith, inl (omega arith))
     go false false next = first-within (inner at g) (groupsFault inner (headTag g ∷ seen) (at + parts g) gs) (h at g) next
 
-fields-within : (at : ℕ) (ts : List Tag) → Within 1 7 (fieldsFault at ts)
+fields-within : (n : ℕ) → ReadingNumber n → (at : ℕ) (ts : List Tag) → ReadingFault (fieldsFault n at ts)
 unfolding fieldsFault fieldFault
-fields-within at ts =
-    first-within _ _ (part-within languageOnly at ((grouped isFieldKey ts) .before))
-    (groups-within fieldFault (λ n g. tag-within 5 wrongValue n g (omega arith) (omega arith)) [] (at + parts ((grouped isFieldKey ts) .before)) ((grouped isFieldKey ts) .groups))
+fields-within n h at ts =
+    first-within _ _ (part-within n n h h languageOnly at ((grouped isFieldKey ts) .before))
+    (groups-within (fieldFault n) (λ at g. tag-within n wrongValue at g h) [] (at + parts ((grouped isFieldKey ts) .before)) ((grouped isFieldKey ts) .groups))
 
-extension-within : (at : ℕ) (g : List Tag) → Within 1 7 (extensionFault at g)
-unfolding extensionFault Within
-extension-within at [] = tt
-extension-within at (s ∷ ts) = go (same s uTag) (same s tTag)
+extension-within : (n : ℕ) → ReadingNumber n → (at : ℕ) (g : List Tag) → ReadingFault (extensionFault n at g)
+unfolding extensionFault ReadingFault ReadingNumber
+extension-within n h at [] = tt
+extension-within n h at (s ∷ ts) = go (same s uTag) (same s tTag)
   where
-    go : (a b : Bool) → Within 1 7 (elim a [ true ↦ badTag 5 wrongKeyword (at + 2) ts | false ↦ elim b [ true ↦ fieldsFault (at + 2) ts | false ↦ none ] ])
-    go true b = tag-within 5 wrongKeyword (at + 2) ts (omega arith) (omega arith)
-    go false true = fields-within (at + 2) ts
+    go : (a b : Bool) → ReadingFault (elim a [ true ↦ badTag n wrongKeyword (at + 2) ts | false ↦ elim b [ true ↦ fieldsFault n (at + 2) ts | false ↦ none ] ])
+    go true b = tag-within n wrongKeyword (at + 2) ts h
+    go false true = fields-within n h (at + 2) ts
     go false false = tt
 
-private-within : (at : ℕ) (ts : List Tag) → Within 1 7 (privateFault at ts)
-unfolding privateFault Within
+private-within : (at : ℕ) (ts : List Tag) → ReadingFault (privateFault at ts)
+unfolding privateFault ReadingFault ReadingNumber
 private-within at [] = tt
-private-within at (x ∷ []) = (omega arith, omega arith)
+private-within at (x ∷ []) = (omega arith, inl (omega arith))
 private-within at (x ∷ t ∷ ts) = tt
 
-language-within : (ts : List Tag) → Within 1 7 (noLanguage ts)
-unfolding noLanguage Within
-language-within [] = (omega arith, omega arith)
-language-within (t ∷ ts) = tt
+language-within : (m : ℕ) → ReadingNumber m → (ts : List Tag) → ReadingFault (noLanguage m ts)
+unfolding noLanguage ReadingFault ReadingNumber
+language-within m h [] = h
+language-within m h (t ∷ ts) = tt
 
-grammar-within : (ts : List Tag) → Within 1 7 (grammarFault ts)
+grammar-within : (ts : List Tag) → ReadingFault (grammarFault byPart ts)
 unfolding grammarFault
 grammar-within ts =
     let g = grouped isSingleton (upTo isX ts) in
-    first-within _ _ (language-within (g .before))
-    (first-within _ _ (part-within start 0 (g .before))
-    (first-within _ _ (groups-within extensionFault extension-within [] (parts (g .before)) (g .groups)) (private-within (parts (upTo isX ts)) (from isX ts))))
+    first-within _ _ (language-within 5 five (g .before))
+    (first-within _ _ (part-within 5 15 five fifteen start 0 (g .before))
+    (first-within _ _ (groups-within (extensionFault 16) (extension-within 16 sixteen) [] (parts (g .before)) (g .groups)) (private-within (parts (upTo isX ts)) (from isX ts))))
 
-empty-within : (x : List ℕ) → Within 1 7 (noBytes x)
-unfolding noBytes Within
-empty-within [] = (omega arith, omega arith)
+empty-within : (x : List ℕ) → ReadingFault (noBytes x)
+unfolding noBytes ReadingFault ReadingNumber
+empty-within [] = (omega arith, inl (omega arith))
 empty-within (b ∷ bs) = tt
 
-long-within : (x : List ℕ) → Within 1 7 (tooLong x)
-unfolding tooLong Within
+long-within : (x : List ℕ) → ReadingFault (tooLong x)
+unfolding tooLong ReadingFault ReadingNumber
 long-within x = go (leb (length x) 255)
   where
-    go : (b : Bool) → Within 1 7 (elim b [ true ↦ none | false ↦ some (record { number = 2; place = 0 }) ])
+    go : (b : Bool) → ReadingFault (elim b [ true ↦ none | false ↦ some (record { number = 2; place = 0 }) ])
     go true = tt
-    go false = (omega arith, omega arith)
+    go false = (omega arith, inl (omega arith))
 
--- reading refuses with 1 to 7
-pub fault-within : (x : List ℕ) → Within 1 7 (faultOf x)
-unfolding faultOf
+-- reading refuses with 1 to 7, 15 or 16
+pub fault-within : (x : List ℕ) → ReadingFault (faultOf x)
+unfolding faultOf faultBy
 fault-within x =
     first-within _ _ (empty-within x) (first-within _ _ (long-within x) (first-within _ _ (unclean-within 0 x)
-    (first-within _ _ (tag-within 4 wrongSize 0 (split x) (omega arith) (omega arith)) (grammar-within (split x)))))
+    (first-within _ _ (tag-within 4 wrongSize 0 (split x) (small-number 4 (omega arith) (omega arith))) (grammar-within (split x)))))
 
 -- the tables' refusals are 11 to 14
 rows-within : (shape : List Tag → Bool) (last : Option (List ℕ)) (at : ℕ) (ls : List Tag) → Within 11 14 (rowsFault shape last at ls)
@@ -227,8 +251,13 @@ operate-proper T canonicalise i = bounded-proper _
 operate-proper T maximise i = then-proper _ _ (λ c. filled-proper c _) (bounded-proper _)
 operate-proper T minimise i = then-proper _ _ (λ m. tt) (then-proper _ _ (λ c. filled-proper c _) (bounded-proper _))
 
-read-proper : (x : Bytes) (n p : ℕ) → read x ≡ bad n p → (0 < n) × (n < 10)
-unfolding read readAs Within
+number-proper : (n : ℕ) → ReadingNumber n → (0 < n) × ((n < 10) ⊎ (10 < n))
+unfolding ReadingNumber
+number-proper n (h, inl k) = (omega arith, inl (omega arith))
+number-proper n (h, inr k) = (omega arith, inr (omega (arith, k .0)))
+
+read-proper : (x : Bytes) (n p : ℕ) → read x ≡ bad n p → (0 < n) × ((n < 10) ⊎ (10 < n))
+unfolding read readAs ReadingFault
 read-proper x n p e = go (faultOf x) (fault-within x) e
   where
     bad-eq : {a b c d : ℕ} → bad a b ≡ bad c d → a ≡ c
@@ -237,9 +266,9 @@ read-proper x n p e = go (faultOf x) (fault-within x) e
     good-not : {i : Identifier} {a b : ℕ} {Q : Type 0} → good i ≡ bad a b → Q
     good-not q = let z : _≡_ {A = ℕ} 0 1 = cc in absurd (omega arith)
 
-    go : (o : Option Fault) → Within 1 7 o → readAs o (identifierOf (split x)) ≡ bad n p → (0 < n) × (n < 10)
+    go : (o : Option Fault) → ReadingFault o → readAs o (identifierOf (split x)) ≡ bad n p → (0 < n) × ((n < 10) ⊎ (10 < n))
     go none h q = good-not q
-    go (some f) h q = let z : f .number ≡ n = bad-eq q in (omega (arith, h .0), omega (arith, h .1))
+    go (some f) h q = number-proper n (subst ReadingNumber (bad-eq q) h)
 
 made-proper : (a : Answer) → ProperAnswer a → Proper (made a)
 unfolding made Proper ProperAnswer
@@ -252,7 +281,7 @@ make-proper T o x = go (read x) refl
   where
     go : (a : Read) → read x ≡ a → Proper (makeOf T o a)
     go (good i) e = made-proper (operate T o i) (operate-proper T o i)
-    go (bad n p) e = let h = read-proper x n p e in (h .0, inl (h .1))
+    go (bad n p) e = read-proper x n p e
 
 chain-proper : (T : Tables) (x : Bytes) → Proper (chainFrom T (read x))
 unfolding chainFrom Proper chainMade listed ProperAnswer canonical operate
@@ -264,7 +293,7 @@ chain-proper T x = go (read x) refl
 
     go : (a : Read) → read x ≡ a → Proper (chainFrom T a)
     go (good i) e = answered (canonical T i) (operate-proper T canonicalise i)
-    go (bad n p) e = let h = read-proper x n p e in (h .0, inl (h .1))
+    go (bad n p) e = read-proper x n p e
 
 pub whole-proper : (A L P : Bytes) (o : Operation) (x : Bytes) → Proper (whole A L P o x)
 unfolding whole canonicaliseMade maximiseMade minimiseMade
