@@ -22,31 +22,37 @@
 extern "C" {
 #endif
 
-#define ALTAZHBEY_VERSION "0.1.0"
+#define ALTAZHBEY_VERSION "0.2.0"
 #define ALTAZHBEY_VERSION_MAJOR 0
-#define ALTAZHBEY_VERSION_MINOR 1
+#define ALTAZHBEY_VERSION_MINOR 2
 #define ALTAZHBEY_VERSION_PATCH 0
 
 /* The numbers: the meaning, as altazhbey_meaning says it, then what else holds. Place is 0 where none is named. */
 enum altazhbey_numbers {
-    ALTAZHBEY_DONE = 0,        /* done; the result stands at the front of out */
-    ALTAZHBEY_EMPTY = 1,       /* no bytes */
-    ALTAZHBEY_LONG = 2,        /* over 255 bytes */
-    ALTAZHBEY_BYTE = 3,        /* a byte that is no letter, digit, - or _; place: the first such byte */
-    ALTAZHBEY_SIZE = 4,        /* a subtag of 0 or over 8 bytes; place: its first byte, id_len if it is at the end */
-    ALTAZHBEY_MISPLACED = 5,   /* a subtag that can't stand there; place: its first byte */
-    ALTAZHBEY_REPEATED = 6,    /* a repeated singleton, variant or t key; place: the repeat */
-    ALTAZHBEY_UNFINISHED = 7,  /* a singleton or t key with nothing behind it; what follows is the end, a one-byte
-                                  subtag (not after x) or, after a t key, a t key; place: that singleton or key */
-    ALTAZHBEY_NO_ROW = 8,      /* no row of the likely table fits it */
-    ALTAZHBEY_OVERLONG = 9,    /* its canonical or maximised form is over 255 bytes */
-    ALTAZHBEY_SHORT_OUT = 10,  /* the output is too short */
-    ALTAZHBEY_TABLE_SIZE = 11, /* a table over 32,768 bytes; table: which */
-    ALTAZHBEY_ROW_SHAPE = 12,  /* a row of wrong shape; table, place: the row's first byte */
-    ALTAZHBEY_ROW_ORDER = 13,  /* a row not above the one before; table, place: the row's first byte */
-    ALTAZHBEY_ROW_CLASH = 14,  /* a row that clashes with another; table, place: the row's first byte */
-    ALTAZHBEY_OVER_KEYS = 17,  /* over 512 keys; given by the program bill alone */
-    ALTAZHBEY_OVER_LINES = 18  /* over 1,000,000 lines; given by the program bill alone */
+    ALTAZHBEY_DONE = 0,                 /* done; the result stands at the front of out */
+    ALTAZHBEY_EMPTY = 1,                /* no bytes */
+    ALTAZHBEY_LONG = 2,                 /* over 255 bytes */
+    ALTAZHBEY_BYTE = 3,                 /* a byte that is no letter, digit, - or _; place: the first such byte */
+    ALTAZHBEY_SIZE = 4,                 /* a subtag of 0 or over 8 bytes; place: its first byte, id_len if it is at
+                                           the end */
+    ALTAZHBEY_MISPLACED_FIRST = 5,      /* a first subtag that is no language, script or root; place: 0 */
+    ALTAZHBEY_REPEATED = 6,             /* a repeated singleton, variant or t key; place: the repeat */
+    ALTAZHBEY_UNFINISHED = 7,           /* a singleton or t key with nothing behind it; what follows is the end, a
+                                           one-byte subtag (not after x) or, after a t key, a t key; place: that
+                                           singleton or key */
+    ALTAZHBEY_NO_ROW = 8,               /* no row of the likely table fits it */
+    ALTAZHBEY_OVERLONG = 9,             /* its canonical or maximised form is over 255 bytes */
+    ALTAZHBEY_SHORT_OUT = 10,           /* the output is too short */
+    ALTAZHBEY_TABLE_SIZE = 11,          /* a table over 32,768 bytes; table: which */
+    ALTAZHBEY_ROW_SHAPE = 12,           /* a row of wrong shape; table, place: the row's first byte */
+    ALTAZHBEY_ROW_ORDER = 13,           /* a row not above the one before; table, place: the row's first byte */
+    ALTAZHBEY_ROW_CLASH = 14,           /* a row that clashes with another; table, place: the row's first byte */
+    ALTAZHBEY_MISPLACED_LATER = 15,     /* a subtag that can't stand there in the language part; behind the first one
+                                           and before any singleton; place: its first byte */
+    ALTAZHBEY_MISPLACED_EXTENSION = 16, /* a subtag that can't stand there in an extension; behind a singleton;
+                                           place: its first byte */
+    ALTAZHBEY_OVER_KEYS = 17,           /* over 512 keys; given by the program bill alone */
+    ALTAZHBEY_OVER_LINES = 18           /* over 1,000,000 lines; given by the program bill alone */
 };
 
 /* The table that answers 11 to 14 name; 0 in all other answers. */
@@ -95,7 +101,7 @@ static inline const char *altazhbey_meaning(unsigned number) {
     case ALTAZHBEY_LONG: return "over 255 bytes";
     case ALTAZHBEY_BYTE: return "a byte that is no letter, digit, - or _";
     case ALTAZHBEY_SIZE: return "a subtag of 0 or over 8 bytes";
-    case ALTAZHBEY_MISPLACED: return "a subtag that can't stand there";
+    case ALTAZHBEY_MISPLACED_FIRST: return "a first subtag that is no language, script or root";
     case ALTAZHBEY_REPEATED: return "a repeated singleton, variant or t key";
     case ALTAZHBEY_UNFINISHED: return "a singleton or t key with nothing behind it";
     case ALTAZHBEY_NO_ROW: return "no row of the likely table fits it";
@@ -105,6 +111,8 @@ static inline const char *altazhbey_meaning(unsigned number) {
     case ALTAZHBEY_ROW_SHAPE: return "a row of wrong shape";
     case ALTAZHBEY_ROW_ORDER: return "a row not above the one before";
     case ALTAZHBEY_ROW_CLASH: return "a row that clashes with another";
+    case ALTAZHBEY_MISPLACED_LATER: return "a subtag that can't stand there in the language part";
+    case ALTAZHBEY_MISPLACED_EXTENSION: return "a subtag that can't stand there in an extension";
     case ALTAZHBEY_OVER_KEYS: return "over 512 keys";
     case ALTAZHBEY_OVER_LINES: return "over 1,000,000 lines";
     default: return "no such number";

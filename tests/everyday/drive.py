@@ -29,16 +29,16 @@ HEADERS = {
     "refused": b"line\tmember\tnumber\tplace\tidentifier\tmeaning\n",
     "tables_check": b"",
 }
-MISPLACED = b"a subtag that can't stand there"
+MISPLACED = b"a subtag that can't stand there in the language part"
 
 # Two lines for each program, and what it prints of them over the project's tables.
 USAGE = b"1\tiw_IL\n2\ten-US-Latn\n"
 LINES = {"keys": b"iw_IL\nen-US-Latn\n", "inspect": b"iw_IL\nen-US-Latn\n", "bill": USAGE, "refused": USAGE, "tables_check": b""}
 ROWS = {
-    "keys": b"iw_IL\t0\the\nen-US-Latn\t5\t-\n",
-    "inspect": b"iw_IL\t0\t0\tiw\t-\tIL\t0\t0\tdone\nen-US-Latn\t5\t6\t-\t-\t-\t0\t0\t" + MISPLACED + b"\n",
+    "keys": b"iw_IL\t0\the\nen-US-Latn\t15\t-\n",
+    "inspect": b"iw_IL\t0\t0\tiw\t-\tIL\t0\t0\tdone\nen-US-Latn\t15\t6\t-\t-\t-\t0\t0\t" + MISPLACED + b"\n",
     "bill": b"he\t1\t1\n-\t0\t1\n",
-    "refused": b"2\t2\t5\t8\ten-US-Latn\t" + MISPLACED + b"\n",
+    "refused": b"2\t2\t15\t8\ten-US-Latn\t" + MISPLACED + b"\n",
     "tables_check": b"table\t0\t0\t0\t0\t-\tdone\n",
 }
 

@@ -113,10 +113,14 @@ static void examples(void) {
     writes(CANONICALISE, "root", "und", 0);
     writes(CANONICALISE, "ja-Latn-heploc-alalc97", "ja-Latn-alalc97", 0);
     for (int o = CANONICALISE; o <= CHAIN; o++) {
-        refuses((operation)o, "en-US-Latn", 5, 6);
+        refuses((operation)o, "en-US-Latn", ALTAZHBEY_MISPLACED_LATER, 6);
         refuses((operation)o, "en-1994-1994", 6, 8);
         refuses((operation)o, "en-u", 7, 3);
-        refuses((operation)o, "root-US", 5, 5);
+        refuses((operation)o, "root-US", ALTAZHBEY_MISPLACED_LATER, 5);
+        refuses((operation)o, "u-ca-abc", ALTAZHBEY_MISPLACED_FIRST, 0);
+        refuses((operation)o, "en-t-en-us-latn", ALTAZHBEY_MISPLACED_EXTENSION, 11);
+        refuses((operation)o, "en-t-k0-ab", 16, 8);
+        refuses((operation)o, "en-u-ca-12", 16, 8);
         refuses((operation)o, "", 1, 0);
         refuses((operation)o, "en US", 3, 2);
         refuses((operation)o, "en--US", 4, 3);
@@ -216,10 +220,10 @@ static void null_pointers(void) {
 static void meanings(void) {
     static const char *const WORDS[] = {
         "done", "no bytes", "over 255 bytes", "a byte that is no letter, digit, - or _", "a subtag of 0 or over 8 bytes",
-        "a subtag that can't stand there", "a repeated singleton, variant or t key", "a singleton or t key with nothing behind it",
+        "a first subtag that is no language, script or root", "a repeated singleton, variant or t key", "a singleton or t key with nothing behind it",
         "no row of the likely table fits it", "its canonical or maximised form is over 255 bytes", "the output is too short",
         "a table over 32,768 bytes", "a row of wrong shape", "a row not above the one before", "a row that clashes with another",
-        "no such number", "no such number", "over 512 keys", "over 1,000,000 lines", "no such number"};
+        "a subtag that can't stand there in the language part", "a subtag that can't stand there in an extension", "over 512 keys", "over 1,000,000 lines", "no such number"};
     for (unsigned n = 0; n < sizeof WORDS / sizeof *WORDS; n++) expect_true(WORDS[n], !strcmp(altazhbey_meaning(n), WORDS[n]));
     for (unsigned n = 20; n < 256; n++) expect_true("no such number", !strcmp(altazhbey_meaning(n), "no such number"));
     expect_true("no such number", !strcmp(altazhbey_meaning(~0u), "no such number"));

@@ -13,7 +13,7 @@ use Rattle.standard.specs.Reading.{Fault, faultOf, Read, good, bad, readAs, rea
 use Rattle.standard.specs.Calls.{Operation, canonicalise, maximise, minimise}
 use Rattle.standard.specs.Table.{TableFault, tablesOf, check, toCanonicalise, toMaximise, toChain, toCheck}
 use Rattle.standard.specs.Make.{operate, made, makeOf, make, listed, chainMade, chainFrom, afterCheck, canonicaliseMade, maximiseMade, minimiseMade, listMade}
-use Rattle.standard.proofs.Numbers.{Within, fault-within, TableWithin, check-within}
+use Rattle.standard.proofs.Numbers.{at-most-16, ReadingFault, fault-within, TableWithin, check-within}
 use Rattle.standard.proofs.Bounds.{Below, fault-below, AllNamed, check-named}
 use Rattle.standard.proofs.Long.{read-short}
 use Rattle.standard.proofs.Demand.{result-of}
@@ -52,7 +52,7 @@ after-small (some f) m w n k = (omega (arith, w .1), (omega (arith, n .place), o
 
 -- reading's refusals
 read-small : (x : Bytes) (n p : ℕ) → read x ≡ bad n p → Small (refusal n p 0)
-unfolding read readAs Within Below Small
+unfolding read readAs ReadingFault Below Small
 read-small x n p e = go (faultOf x) (fault-within x) (fault-below x) e
   where
     bad-one : {a b c d : ℕ} → bad a b ≡ bad c d → (a ≡ c) × (b ≡ d)
@@ -61,9 +61,9 @@ read-small x n p e = go (faultOf x) (fault-within x) (fault-below x) e
     good-not : {i : Identifier} {a b : ℕ} {Q : Type 0} → good i ≡ bad a b → Q
     good-not q = let z : _≡_ {A = ℕ} 0 1 = cc in absurd (omega arith)
 
-    go : (o : Option Fault) → Within 1 7 o → Below 600 o → readAs o (identifierOf (split x)) ≡ bad n p → (n < 256) × ((p < 65536) × (0 < 256))
+    go : (o : Option Fault) → ReadingFault o → Below 600 o → readAs o (identifierOf (split x)) ≡ bad n p → (n < 256) × ((p < 65536) × (0 < 256))
     go none w b q = good-not q
-    go (some f) w b q = let z = bad-one q in (omega (arith, w .1, z .0), (omega (arith, b, z .1), omega arith))
+    go (some f) w b q = let z = bad-one q in (omega (arith, at-most-16 (f .number) w, z .0), (omega (arith, b, z .1), omega arith))
 
 -- 8 and 9
 unfoldable SmallAnswer : Answer → Type 0

@@ -12,7 +12,7 @@ use borrow.Author.Tests.{leb-true}
 use Rattle.standard.specs.Tag.{Tag, headTag}
 use Rattle.standard.specs.Grammar.{aScript, aRegion, isVariant, isSingleton, Groups, grouped, flat, only}
 use Rattle.standard.specs.Identifier.{Identifier, part, parts}
-use Rattle.standard.specs.Reading.{optional, split, noBytes, tooLong, unclean, badTag, wrongSize, start, partFault, isX, upTo, from, noLanguage, grammarFault, faultOf, find, afterFirst, identifierOf}
+use Rattle.standard.specs.Reading.{optional, split, noBytes, tooLong, unclean, badTag, wrongSize, start, byPart, partFault, isX, upTo, from, noLanguage, grammarFault, faultBy, faultOf, find, afterFirst, identifierOf}
 use Rattle.standard.proofs.General.{bool-cases}
 use Rattle.standard.proofs.Arranged.{firstOf-none}
 use Rattle.reader.specs.Cuts.{Cuts, cutsAfter, cutsOf}
@@ -93,15 +93,15 @@ cut-one x at to (b ∷ bs) v c h =
 pub record Accepted (x : List ℕ) : Type 0 where
   pub short : length x ≤ 255
   pub plain : Plain (split x)
-  pub language : noLanguage ((grouped isSingleton (upTo isX (split x))) .before) ≡ none
-  pub core : partFault start 0 ((grouped isSingleton (upTo isX (split x))) .before) ≡ none
+  pub language : noLanguage (byPart .first) ((grouped isSingleton (upTo isX (split x))) .before) ≡ none
+  pub core : partFault (byPart .first) (byPart .later) start 0 ((grouped isSingleton (upTo isX (split x))) .before) ≡ none
 
 short-read : (x : List ℕ) → tooLong x ≡ none → length x ≤ 255
 unfolding tooLong
 short-read x e = bool-cases (leb (length x) 255) (λ f. leb-true (length x) 255 f) (λ f. absurd (Option·some-ne-none _ (rw (f, tooLong) at e)))
 
 pub accepted : (x : List ℕ) → faultOf x ≡ none → Accepted x
-unfolding faultOf grammarFault
+unfolding faultOf faultBy grammarFault
 accepted x e =
     let f₁ = firstOf-none (noBytes x) _ e in
     let f₂ = firstOf-none (tooLong x) _ (f₁ .1) in

@@ -9,17 +9,24 @@ use Rattle.standard.specs.Tag.{text}
 abbrev pub Bytes : Type 0
 Bytes = List ℕ
 
--- the words of a number: 0, why an identifier (1 to 9), an output (10), a table (11 to 14) or a bill (17, 18) is refused
-unfoldable pub meaningOf : ℕ → Bytes
-meaningOf n =
-    cond (eqb n 0) (text "done")
-    (cond (eqb n 1) (text "no bytes")
+-- the words of a number with which reading refuses: 1 to 7, 15, 16
+unfoldable pub refusalOf : ℕ → Bytes
+refusalOf n =
+    cond (eqb n 1) (text "no bytes")
     (cond (eqb n 2) (text "over 255 bytes")
     (cond (eqb n 3) (text "a byte that is no letter, digit, - or _")
     (cond (eqb n 4) (text "a subtag of 0 or over 8 bytes")
-    (cond (eqb n 5) (text "a subtag that can't stand there")
+    (cond (eqb n 5) (text "a first subtag that is no language, script or root")
     (cond (eqb n 6) (text "a repeated singleton, variant or t key")
     (cond (eqb n 7) (text "a singleton or t key with nothing behind it")
+    (cond (eqb n 15) (text "a subtag that can't stand there in the language part")
+    (cond (eqb n 16) (text "a subtag that can't stand there in an extension")
+    (text "no such number")))))))))
+
+-- the words of a number: 0, why a form (8, 9), an output (10), a table (11 to 14) or a bill (17, 18) is refused, and reading's
+unfoldable pub meaningOf : ℕ → Bytes
+meaningOf n =
+    cond (eqb n 0) (text "done")
     (cond (eqb n 8) (text "no row of the likely table fits it")
     (cond (eqb n 9) (text "its canonical or maximised form is over 255 bytes")
     (cond (eqb n 10) (text "the output is too short")
@@ -29,4 +36,4 @@ meaningOf n =
     (cond (eqb n 14) (text "a row that clashes with another")
     (cond (eqb n 17) (text "over 512 keys")
     (cond (eqb n 18) (text "over 1,000,000 lines")
-    (text "no such number")))))))))))))))))
+    (refusalOf n))))))))))

@@ -12,7 +12,7 @@ use lib.Seq.{drop-drop}
 use Rattle.standard.specs.Tag.{Tag, same, headTag, All}
 use Rattle.standard.specs.Grammar.{Kind, aScript, aRegion, aVariant, aNone, kindOf, isLanguage, isVariant, isSingleton, flat, only}
 use Rattle.standard.specs.Identifier.{three, part, parts}
-use Rattle.standard.specs.Reading.{noBytes, tooLong, unclean, badTag, wrongSize, optional, split, root, start, partFault, noLanguage, isX, upTo, from, grammarFault, faultOf, find, coreOf, afterFirst, identifierOf}
+use Rattle.standard.specs.Reading.{noBytes, tooLong, unclean, badTag, wrongSize, optional, split, root, start, byPart, partFault, noLanguage, isX, upTo, from, grammarFault, faultBy, faultOf, find, coreOf, afterFirst, identifierOf}
 use Rattle.standard.proofs.General.{bool-cases, le-or-lt}
 use Rattle.standard.proofs.Faults.{none-badTag}
 use Rattle.standard.proofs.Arranged.{firstOf-none}
@@ -68,11 +68,11 @@ place-from (w ∷ u) t v x e h =
 -- Without a fault.
 pub record Accepted (x : List ℕ) : Type 0 where
   pub fine-tags : All Fine (split x)
-  pub a-language : noLanguage (body (split x)) ≡ none
-  pub core : partFault start 0 (body (split x)) ≡ none
+  pub a-language : noLanguage (byPart .first) (body (split x)) ≡ none
+  pub core : partFault (byPart .first) (byPart .later) start 0 (body (split x)) ≡ none
 
 pub accepted : (x : List ℕ) → faultOf x ≡ none → Accepted x
-unfolding faultOf grammarFault body
+unfolding faultOf faultBy grammarFault body
 accepted x e =
     let f₁ = firstOf-none (noBytes x) _ e in
     let f₂ = firstOf-none (tooLong x) _ (f₁ .1) in
@@ -88,14 +88,14 @@ pub data Core (first : Tag) (others : List Tag) : Type 0 where
   of-root : isLanguage first ≡ false → same first root ≡ true → others ≡ [] → Core first others
   of-script : isLanguage first ≡ false → same first root ≡ false → Region others → Core first others
 
-pub core-of : (t : Tag) (ts : List Tag) → partFault start 0 (t ∷ ts) ≡ none → Core t ts
+pub core-of : (t : Tag) (ts : List Tag) → partFault (byPart .first) (byPart .later) start 0 (t ∷ ts) ≡ none → Core t ts
 unfolding partFault start
 core-of t ts e =
-    bool-cases (isLanguage t) (λ f. of-language f (after-language [] _ ts (rw (f, start, partFault) at e)))
-    (λ f. bool-cases (same t root) (λ g. of-root f g (after-root [] _ ts (rw (f, g, start, partFault) at e))) (λ g. go f g (kindOf t) refl))
+    bool-cases (isLanguage t) (λ f. of-language f (after-language (byPart .later) [] _ ts (rw (f, start, partFault) at e)))
+    (λ f. bool-cases (same t root) (λ g. of-root f g (after-root (byPart .later) [] _ ts (rw (f, g, start, partFault) at e))) (λ g. go f g (kindOf t) refl))
   where
     go : isLanguage t ≡ false → same t root ≡ false → (k : Kind) → kindOf t ≡ k → Core t ts
-    go f g aScript q = of-script f g (after-script [] _ ts (rw (f, g, q, start, partFault) at e))
+    go f g aScript q = of-script f g (after-script (byPart .later) [] _ ts (rw (f, g, q, start, partFault) at e))
     go f g aRegion q = absurd (Option·some-ne-none _ (rw (f, g, q, start, partFault) at e))
     go f g aVariant q = absurd (Option·some-ne-none _ (rw (f, g, q, start, partFault) at e))
     go f g aNone q = absurd (Option·some-ne-none _ (rw (f, g, q, start, partFault) at e))
@@ -112,7 +112,7 @@ all-tags ts =
     sym (upTo-from isX ts) ∙ ap (λ (a : List Tag). a ++ from isX ts) (sym (grouped-flat isSingleton (upTo isX ts)))
     ∙ append-assoc (body ts) (flat (heads ts)) (from isX ts)
 
-pub has-first : (b : List Tag) → noLanguage b ≡ none → b ≡ headTag b ∷ afterFirst b
+pub has-first : (b : List Tag) → noLanguage (byPart .first) b ≡ none → b ≡ headTag b ∷ afterFirst b
 unfolding noLanguage headTag afterFirst
 has-first [] e = absurd (Option·some-ne-none _ e)
 has-first (t ∷ b) e = refl

@@ -9,7 +9,7 @@ use lib.ListN.{length}
 use Rattle.standard.specs.Tag.{Tag}
 use Rattle.standard.specs.Grammar.{isSingleton, isFieldKey, sizeOf, oneSize, Groups, withTag, grouped, flat}
 use Rattle.standard.specs.Identifier.{parts}
-use Rattle.standard.specs.Reading.{Fault, firstOf, isX, upTo, from, groupsFault, extensionFault, privateFault}
+use Rattle.standard.specs.Reading.{Fault, firstOf, isX, upTo, from, byPart, groupsFault, extensionFault, privateFault}
 use Rattle.standard.proofs.General.{clash, bool-cases}
 use Rattle.standard.proofs.Shapes.{single-not-x}
 
@@ -122,7 +122,7 @@ module _ (t : Tag) (b : List Tag) where
 
 -- What the standard says of the extensions that begin at `at`, after the singletons seen.
 unfoldable pub behind : List Tag → ℕ → List Tag → Option Fault
-behind seen at ts = firstOf (groupsFault extensionFault seen at (heads ts)) (privateFault (at + parts (flat (heads ts))) (from isX ts))
+behind seen at ts = firstOf (groupsFault (extensionFault (byPart .extension)) seen at (heads ts)) (privateFault (at + parts (flat (heads ts))) (from isX ts))
 
 pub behind-more : (seen : List Tag) (at : ℕ) (t : Tag) (ts : List Tag) → isSingleton t ≡ false → behind seen at (t ∷ ts) ≡ behind seen at ts
 unfolding behind

@@ -11,7 +11,7 @@ use lib.ListN.{length, getD, drop, drop-of-length-le}
 use lib.Seq.{drop-cons}
 use borrow.Author.Tests.{le-leb, lt-leb}
 use Rattle.standard.specs.Tag.{Tag, headTag, All}
-use Rattle.standard.specs.Reading.{Fault, fault, firstOf, noBytes, tooLong, clean, unclean, badTag, wrongSize, split, afterFirst, grammarFault, faultOf}
+use Rattle.standard.specs.Reading.{Fault, fault, firstOf, noBytes, tooLong, clean, unclean, badTag, wrongSize, split, afterFirst, byPart, grammarFault, faultBy, faultOf}
 use Rattle.standard.proofs.General.{bool-cases, clash, le-or-lt}
 use Rattle.standard.proofs.Groups.{Lacks}
 use Rattle.standard.proofs.Faults.{none-badTag}
@@ -88,7 +88,7 @@ fine (t ∷ ts) a b = (record { plain = (not-empty t (b .0), not-long t (b .0), 
 
 -- The whole.
 pub outcome-empty : (x : List ℕ) → length x ≡ 0 → refused 1 0 ≡ outcome x
-unfolding outcome faultOf noBytes firstOf outcomeAs
+unfolding outcome faultOf faultBy noBytes firstOf outcomeAs
 outcome-empty [] e = refl
 outcome-empty (b ∷ x) e = absurd (omega arith)
 
@@ -106,12 +106,12 @@ unfolding tooLong
 short-enough x h = rw (le-leb (length x) 255 h, tooLong)
 
 pub outcome-long : (x : List ℕ) → 255 < length x → refused 2 0 ≡ outcome x
-unfolding outcome faultOf firstOf outcomeAs
+unfolding outcome faultOf faultBy firstOf outcomeAs
 outcome-long x h = rw (no-bytes x (omega arith)) (rw (too-long x h))
 
 module _ (x : List ℕ) (h : 0 < length x) (k : length x ≤ 255) where
-  in-size : faultOf x ≡ firstOf (unclean 0 x) (firstOf (badTag 4 wrongSize 0 (split x)) (grammarFault (split x)))
-  unfolding faultOf firstOf
+  in-size : faultOf x ≡ firstOf (unclean 0 x) (firstOf (badTag 4 wrongSize 0 (split x)) (grammarFault byPart (split x)))
+  unfolding faultOf faultBy firstOf
   in-size = rw (no-bytes x h) (rw (short-enough x k))
 
   pub outcome-byte : (f : Found) (at : ℕ) → foundAs 3 f ≡ unclean 0 x → f ≡ At at → refused 3 at ≡ outcome x

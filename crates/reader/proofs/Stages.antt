@@ -13,8 +13,8 @@ use Rattle.standard.proofs.Faults.{kind-variant, Back, back, nothing}
 use Rattle.standard.proofs.Shapes.{known}
 
 -- the stage that follows
-on : {m st : Stage} {t : Tag} {ts : List Tag} (b : Back st t ts) → _≡_ {A = Option Stage} (some m) (some (b .next)) → restFault m (b .seen) (b .at) ts ≡ none
-on {m} b e = let q : m ≡ b .next = cc in rw q (b .after)
+on : {w : ℕ} {m st : Stage} {t : Tag} {ts : List Tag} (b : Back w st t ts) → _≡_ {A = Option Stage} (some m) (some (b .next)) → restFault w m (b .seen) (b .at) ts ≡ none
+on {w} {m} b e = let q : m ≡ b .next = cc in rw q (b .after)
 
 -- what the searches make of one subtag more
 find-other : (k : Kind) (t : Tag) (ts : List Tag) → ofKind k (kindOf t) ≡ false → find k (t ∷ ts) ≡ find k ts
@@ -56,15 +56,15 @@ variant-first t ts f r = record {
   variants = ap (_∷_ t) (r .variants) ∙ sym (only-this t ts (kind-variant t aVariant f));
 }
 
-only-variants : (seen : List Tag) (at : ℕ) (ts : List Tag) → restFault afterRegion seen at ts ≡ none → Variants ts
+only-variants : (w : ℕ) (seen : List Tag) (at : ℕ) (ts : List Tag) → restFault w afterRegion seen at ts ≡ none → Variants ts
 unfolding accept ofKind
-only-variants seen at [] e = none-left
-only-variants seen at (t ∷ ts) e =
-    let b = back afterRegion seen at t ts e in
-    go (kindOf t) refl b (b .accepted) (λ s n. only-variants s n ts)
+only-variants w seen at [] e = none-left
+only-variants w seen at (t ∷ ts) e =
+    let b = back w afterRegion seen at t ts e in
+    go (kindOf t) refl b (b .accepted) (λ s n. only-variants w s n ts)
   where
-    go : (k : Kind) → kindOf t ≡ k → (b : Back afterRegion t ts) → accept afterRegion (kindOf t) ≡ some (b .next)
-        → ((s : List Tag) (n : ℕ) → restFault afterRegion s n ts ≡ none → Variants ts) → Variants (t ∷ ts)
+    go : (k : Kind) → kindOf t ≡ k → (b : Back w afterRegion t ts) → accept afterRegion (kindOf t) ≡ some (b .next)
+        → ((s : List Tag) (n : ℕ) → restFault w afterRegion s n ts ≡ none → Variants ts) → Variants (t ∷ ts)
     go aVariant f b a more = variant-first t ts f (more (b .seen) (b .at) (on b (rw f at a)))
     go aScript f b a more = nothing (rw f at a)
     go aRegion f b a more = nothing (rw f at a)
@@ -88,14 +88,14 @@ region-first t ts f r = record {
       ∙ ap (λ (x : List Tag). x ++ only isVariant ts) (optional-one t aRegion f refl));
 }
 
-pub after-script : (seen : List Tag) (at : ℕ) (ts : List Tag) → restFault afterScript seen at ts ≡ none → Region ts
+pub after-script : (w : ℕ) (seen : List Tag) (at : ℕ) (ts : List Tag) → restFault w afterScript seen at ts ≡ none → Region ts
 unfolding accept ofKind known
-after-script seen at [] e = variants-left [] none-left
-after-script seen at (t ∷ ts) e = let b = back afterScript seen at t ts e in go (kindOf t) refl b (b .accepted)
+after-script w seen at [] e = variants-left [] none-left
+after-script w seen at (t ∷ ts) e = let b = back w afterScript seen at t ts e in go (kindOf t) refl b (b .accepted)
   where
-    go : (k : Kind) → kindOf t ≡ k → (b : Back afterScript t ts) → accept afterScript (kindOf t) ≡ some (b .next) → Region (t ∷ ts)
-    go aVariant f b a = variants-left (t ∷ ts) (variant-first t ts f (only-variants (b .seen) (b .at) ts (on b (rw f at a))))
-    go aRegion f b a = region-first t ts f (only-variants (b .seen) (b .at) ts (on b (rw f at a)))
+    go : (k : Kind) → kindOf t ≡ k → (b : Back w afterScript t ts) → accept afterScript (kindOf t) ≡ some (b .next) → Region (t ∷ ts)
+    go aVariant f b a = variants-left (t ∷ ts) (variant-first t ts f (only-variants w (b .seen) (b .at) ts (on b (rw f at a))))
+    go aRegion f b a = region-first t ts f (only-variants w (b .seen) (b .at) ts (on b (rw f at a)))
     go aScript f b a = nothing (rw f at a)
     go aNone f b a = nothing (rw f at a)
 
@@ -107,23 +107,23 @@ pub region-left : (ts : List Tag) → Region ts → Others ts
 unfolding optional
 region-left ts r = r .are ∙ ap (λ (s : Tag). optional s ++ (optional (find aRegion ts) ++ only isVariant ts)) (sym (r .script))
 
-pub after-language : (seen : List Tag) (at : ℕ) (ts : List Tag) → restFault afterLanguage seen at ts ≡ none → Others ts
+pub after-language : (w : ℕ) (seen : List Tag) (at : ℕ) (ts : List Tag) → restFault w afterLanguage seen at ts ≡ none → Others ts
 unfolding accept ofKind known variantKind
-after-language seen at [] e = region-left [] (variants-left [] none-left)
-after-language seen at (t ∷ ts) e = let b = back afterLanguage seen at t ts e in go (kindOf t) refl b (b .accepted)
+after-language w seen at [] e = region-left [] (variants-left [] none-left)
+after-language w seen at (t ∷ ts) e = let b = back w afterLanguage seen at t ts e in go (kindOf t) refl b (b .accepted)
   where
-    go : (k : Kind) → kindOf t ≡ k → (b : Back afterLanguage t ts) → accept afterLanguage (kindOf t) ≡ some (b .next) → Others (t ∷ ts)
-    go aVariant f b a = region-left (t ∷ ts) (variants-left (t ∷ ts) (variant-first t ts f (only-variants (b .seen) (b .at) ts (on b (rw f at a)))))
-    go aRegion f b a = region-left (t ∷ ts) (region-first t ts f (only-variants (b .seen) (b .at) ts (on b (rw f at a))))
+    go : (k : Kind) → kindOf t ≡ k → (b : Back w afterLanguage t ts) → accept afterLanguage (kindOf t) ≡ some (b .next) → Others (t ∷ ts)
+    go aVariant f b a = region-left (t ∷ ts) (variants-left (t ∷ ts) (variant-first t ts f (only-variants w (b .seen) (b .at) ts (on b (rw f at a)))))
+    go aRegion f b a = region-left (t ∷ ts) (region-first t ts f (only-variants w (b .seen) (b .at) ts (on b (rw f at a))))
     go aScript f b a =
-        let r = after-script (b .seen) (b .at) ts (on b (rw f at a)) in
+        let r = after-script w (b .seen) (b .at) ts (on b (rw f at a)) in
         ap (_∷_ t) (r .are)
         ∙ sym (ap₂ (λ (x y : Tag). optional x ++ (optional y ++ only isVariant (t ∷ ts))) (find-this aScript t ts (rw f)) (find-other aRegion t ts (rw f))
         ∙ ap₂ (λ (x y : List Tag). x ++ (optional (find aRegion ts) ++ y)) (optional-one t aScript f refl) (only-other t ts (kind-variant t aScript f)))
     go aNone f b a = nothing (rw f at a)
 
 -- nothing follows root
-pub after-root : (seen : List Tag) (at : ℕ) (ts : List Tag) → restFault afterRoot seen at ts ≡ none → ts ≡ []
+pub after-root : (w : ℕ) (seen : List Tag) (at : ℕ) (ts : List Tag) → restFault w afterRoot seen at ts ≡ none → ts ≡ []
 unfolding accept
-after-root seen at [] e = refl
-after-root seen at (t ∷ ts) e = let b = back afterRoot seen at t ts e in nothing (b .accepted)
+after-root w seen at [] e = refl
+after-root w seen at (t ∷ ts) e = let b = back w afterRoot seen at t ts e in nothing (b .accepted)

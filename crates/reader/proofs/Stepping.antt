@@ -34,7 +34,7 @@ use Rattle.reader.specs.declared.steps.State.{State}
 use Rattle.reader.specs.declared.steps.State.the-variants.{First, Main, Unicode, Keywords, Transform, Part, Key, Field, Other, Others, Private, Privates, Misplaced, Unfinished}
 use Rattle.reader.specs.Parts.{Outcome, outcomeAs}
 use Rattle.reader.specs.Marks.{placeOf, bit, has, markedWith}
-use Rattle.reader.specs.Walk.{stageOf, stageBy, placed, firstState, fieldState, opens, afterSingleton, afterOther, nextState, pending, stageVerdict, verdictOf, repeated, verdictFault, singlesAfter, listedAfter, walkFault, cut, unread, walkParts}
+use Rattle.reader.specs.Walk.{stageOf, stageBy, placed, firstState, fieldState, opens, afterSingleton, afterOther, nextState, pending, stageVerdict, verdictOf, misplacedNumber, repeated, verdictFault, singlesAfter, listedAfter, walkFault, cut, unread, walkParts}
 use Rattle.reader.specs.Steps.{rootKey, scriptFirst, firstFrom, stageFrom, partFrom, keywordsFrom, transformFrom, valueFrom, otherFrom, opensFrom, nextFrom, among, ended, steps}
 use Rattle.reader.proofs.Sets.{Marks, marks-none, marks-more, seen-test}
 use Rattle.reader.proofs.Places.{place-in, place-same}
@@ -311,7 +311,7 @@ module _ (t : Tag) (ts : List Tag) (fine : Fine t) (law : Law ts) (st : State) (
   -- the walk goes on, or stops
   result : Verdict → Outcome
   result v =
-      outcomeAs (firstOf (verdictFault v singles listed back at t) (walkFault next (singlesAfter v t singles) (listedAfter v t listed) at (at + suc (length t)) ts))
+      outcomeAs (firstOf (verdictFault v (misplacedNumber st) singles listed back at t) (walkFault next (singlesAfter v t singles) (listedAfter v t listed) at (at + suc (length t)) ts))
       (walkParts next (cut next (at + length t) p) (singlesAfter v t singles) (at + suc (length t)) ts)
 
   -- the walk goes on with these singletons and these variants or keys

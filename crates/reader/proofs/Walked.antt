@@ -12,7 +12,7 @@ use Rattle.standard.specs.Tag.{Tag, order, same, headTag}
 use Rattle.standard.specs.Grammar.{Kind, aScript, aRegion, aVariant, aNone, kindOf, variantKind, isVariant, isLanguage, isSingleton, isTwo, isFieldKey, uTag, tTag, xTag, withTag, grouped, flat}
 use Rattle.standard.specs.Identifier.{parts}
 use Rattle.standard.specs.Reading as reading
-use Rattle.standard.specs.Reading.{Fault, fault, firstOf, badTag, member, accept, restFault, partFault, languageOnly, alone, groupsFault, noLanguage, start, grammarFault, wrongKeyword, wrongValue, fieldFault, fieldsFault, extensionFault, privateFault, isX, upTo, from, root}
+use Rattle.standard.specs.Reading.{Fault, fault, firstOf, badTag, member, accept, byPart, restFault, partFault, languageOnly, alone, groupsFault, noLanguage, start, grammarFault, wrongKeyword, wrongValue, fieldFault, fieldsFault, extensionFault, privateFault, isX, upTo, from, root}
 use Rattle.standard.proofs.General.{clash, bool-cases}
 use Rattle.standard.proofs.Tags.{same-eq}
 use Rattle.reader.specs.declared.steps.Stage.{Stage}
@@ -20,7 +20,7 @@ use Rattle.reader.specs.declared.steps.Stage.the-variants.{Language, Scr
 use Rattle.reader.specs.declared.steps.Verdict.{Verdict}
 use Rattle.reader.specs.declared.steps.State.{State}
 use Rattle.reader.specs.declared.steps.State.the-variants.{First, Main, Unicode, Keywords, Transform, Part, Key, Field, Other, Others, Private, Privates, Misplaced, Unfinished}
-use Rattle.reader.specs.Walk.{stageOf, stageBy, placed, firstState, fieldState, opens, afterSingleton, afterOther, nextState, pending, stageVerdict, verdictOf, repeated, verdictFault, singlesAfter, listedAfter, walkFault}
+use Rattle.reader.specs.Walk.{stageOf, stageBy, placed, firstState, fieldState, opens, afterSingleton, afterOther, nextState, pending, stageVerdict, verdictOf, misplacedNumber, repeated, verdictFault, singlesAfter, listedAfter, walkFault}
 use Rattle.reader.proofs.Bodies.{body, heads, ahead, fields, behind, behind-more, behind-x, body-more, body-single, heads-head, from-head, single-length, ahead-more, ahead-key, fields-more, fields-key}
 use Rattle.standard.proofs.Round.{parts-append}
 
@@ -41,11 +41,11 @@ first-elim (some f) w = refl
 
 module _ (st : State) (singles listed : List Tag) (back at : ℕ) (t : Tag) (ts : List Tag) where
   unfoldable pub stepped : State → Option Fault
-  stepped n = firstOf (verdictFault (verdictOf n) singles listed back at t) (walkFault n (singlesAfter (verdictOf n) t singles) (listedAfter (verdictOf n) t listed) at (at + suc (length t)) ts)
+  stepped n = firstOf (verdictFault (verdictOf n) (misplacedNumber st) singles listed back at t) (walkFault n (singlesAfter (verdictOf n) t singles) (listedAfter (verdictOf n) t listed) at (at + suc (length t)) ts)
 
   pub step : (n : State) → nextState st t ≡ n → walkFault st singles listed back at (t ∷ ts) ≡ stepped n
   unfolding walkFault stepped
-  step n e = first-elim (verdictFault (verdictOf (nextState st t)) singles listed back at t) _ ∙ ap stepped e
+  step n e = first-elim (verdictFault (verdictOf (nextState st t)) (misplacedNumber st) singles listed back at t) _ ∙ ap stepped e
 
 pub next-single : (st : State) (t : Tag) → isSingleton t ≡ true → nextState st t ≡ afterSingleton st (opens t)
 unfolding nextState
@@ -57,17 +57,17 @@ next-other st t e = rw (e, nextState)
 
 -- What the standard says of the rest of a body in which the walk stands; `seen` are the variants or keys before it.
 unfoldable fieldsFrom : List Tag → ℕ → List Tag → Option Fault
-fieldsFrom seen at b = groupsFault fieldFault seen (at + parts (ahead b)) (fields b)
+fieldsFrom seen at b = groupsFault (fieldFault (byPart .extension)) seen (at + parts (ahead b)) (fields b)
 
 unfoldable within : State → List Tag → ℕ → List Tag → Option Fault
 within First seen at b = none
-within (Main s) seen at b = restFault (stageOf s) seen at b
-within Unicode seen at b = badTag 5 wrongKeyword at b
-within Keywords seen at b = badTag 5 wrongKeyword at b
-within Transform seen at b = fieldsFault at b
-within (Part s) seen at b = firstOf (restFault (stageOf s) seen at (ahead b)) (fieldsFrom [] at b)
-within Key seen at b = firstOf (badTag 5 wrongValue at (ahead b)) (fieldsFrom seen at b)
-within Field seen at b = firstOf (badTag 5 wrongValue at (ahead b)) (fieldsFrom seen at b)
+within (Main s) seen at b = restFault (byPart .later) (stageOf s) seen at b
+within Unicode seen at b = badTag (byPart .extension) wrongKeyword at b
+within Keywords seen at b = badTag (byPart .extension) wrongKeyword at b
+within Transform seen at b = fieldsFault (byPart .extension) at b
+within (Part s) seen at b = firstOf (restFault (byPart .extension) (stageOf s) seen at (ahead b)) (fieldsFrom [] at b)
+within Key seen at b = firstOf (badTag (byPart .extension) wrongValue at (ahead b)) (fieldsFrom seen at b)
+within Field seen at b = firstOf (badTag (byPart .extension) wrongValue at (ahead b)) (fieldsFrom seen at b)
 within Other seen at b = none
 within Others seen at b = none
 within Private seen at b = none
@@ -182,26 +182,26 @@ boundary-x st singles listed back at t ts e x nx =
 
 -- another singleton: the standard's extension that it begins
 behind-head : (singles : List Tag) (at : ℕ) (t : Tag) (ts : List Tag) → isSingleton t ≡ true → isX t ≡ false
-    → behind singles at (t ∷ ts) ≡ firstOf (repeated at (member t singles)) (unfinished at (body ts) (firstOf (extensionFault at (t ∷ body ts)) (behind (t ∷ singles) (at + suc (length t) + parts (body ts)) ts)))
+    → behind singles at (t ∷ ts) ≡ firstOf (repeated at (member t singles)) (unfinished at (body ts) (firstOf (extensionFault (byPart .extension) at (t ∷ body ts)) (behind (t ∷ singles) (at + suc (length t) + parts (body ts)) ts)))
 unfolding behind headTag firstOf unfinished repeated groupsFault alone flat
 behind-head singles at t ts e f = rw (heads-head t ts e f, from-head t ts e f) (go (member t singles) refl (body ts))
   where
     go : (m : Bool) → member t singles ≡ m → (b : List Tag)
-        → firstOf (groupsFault extensionFault singles at ((t ∷ b) ∷ heads ts)) (privateFault (at + parts (flat ((t ∷ b) ∷ heads ts))) (from isX ts))
-        ≡ firstOf (repeated at m) (unfinished at b (firstOf (extensionFault at (t ∷ b)) (firstOf (groupsFault extensionFault (t ∷ singles) (at + suc (length t) + parts b) (heads ts)) (privateFault (at + suc (length t) + parts b + parts (flat (heads ts))) (from isX ts)))))
+        → firstOf (groupsFault (extensionFault (byPart .extension)) singles at ((t ∷ b) ∷ heads ts)) (privateFault (at + parts (flat ((t ∷ b) ∷ heads ts))) (from isX ts))
+        ≡ firstOf (repeated at m) (unfinished at b (firstOf (extensionFault (byPart .extension) at (t ∷ b)) (firstOf (groupsFault (extensionFault (byPart .extension)) (t ∷ singles) (at + suc (length t) + parts b) (heads ts)) (privateFault (at + suc (length t) + parts b + parts (flat (heads ts))) (from isX ts)))))
     go true m b = rw (m, groupsFault)
     go false m [] = rw (m, groupsFault)
     go false m (u ∷ b) =
         let q : at + parts (t ∷ u ∷ (b ++ flat (heads ts))) ≡ at + suc (length t) + parts (u ∷ b) + parts (flat (heads ts)) =
         ap (λ (n : ℕ). at + n) (parts-append (t ∷ u ∷ b) (flat (heads ts))) ∙ omega (arith, parts-next at t (u ∷ b)) in
-        rw (m, groupsFault) (first-assoc (extensionFault at (t ∷ u ∷ b)) _ _ ∙ rw (parts-next at t (u ∷ b), q))
+        rw (m, groupsFault) (first-assoc (extensionFault (byPart .extension) at (t ∷ u ∷ b)) _ _ ∙ rw (parts-next at t (u ∷ b), q))
 
 -- the state that it begins
 record Begun (o : State) (at next : ℕ) (t : Tag) (b : List Tag) : Type 0 where
   verdict : verdictOf o ≡ verdictOf Other
   fits : Fits o [] []
   closed : (f : Option Fault) → closing o at b f ≡ unfinished at b f
-  inside : extensionFault at (t ∷ b) ≡ within o [] next b
+  inside : extensionFault (byPart .extension) at (t ∷ b) ≡ within o [] next b
 
 begun : (at next : ℕ) (t : Tag) (b : List Tag) → next ≡ at + 2 → isX t ≡ false → Begun (opens t) at next t b
 unfolding opens extensionFault within closing Fits verdictOf
@@ -274,31 +274,31 @@ stage-next reading.afterRegion n aVariant e = cc
 stage-next reading.afterRegion n aNone e = cc
 stage-next reading.afterRoot n k e = absurd (Option·none-ne-some n e)
 
-module _ (s : reading.Stage) (singles listed : List Tag) (back at : ℕ) (t : Tag) (b : List Tag) where
-  rest-stop : accept s (kindOf t) ≡ none → restFault s listed at (t ∷ b) ≡ fault 5 at
+module _ (m : ℕ) (s : reading.Stage) (singles listed : List Tag) (back at : ℕ) (t : Tag) (b : List Tag) where
+  rest-stop : accept s (kindOf t) ≡ none → restFault m s listed at (t ∷ b) ≡ fault m at
   unfolding restFault
   rest-stop e = rw (e, restFault)
 
   on-kind : Kind → Option Fault
-  on-kind k = firstOf (verdictFault (stageVerdict (stageBy k)) singles listed back at t) (restFault (stageOf (stageBy k)) (listedAfter (stageVerdict (stageBy k)) t listed) (at + suc (length t)) b)
+  on-kind k = firstOf (verdictFault (stageVerdict (stageBy k)) m singles listed back at t) (restFault m (stageOf (stageBy k)) (listedAfter (stageVerdict (stageBy k)) t listed) (at + suc (length t)) b)
 
   -- by the kind, and for a variant by whether it is a repeat
   taken : reading.Stage → Bool → Bool → Option Fault
-  taken n v m = elim (v && m) [ true ↦ fault 6 at | false ↦ restFault n (elim v [ true ↦ t ∷ listed | false ↦ listed ]) (at + suc (length t)) b ]
+  taken n v r = elim (v && r) [ true ↦ fault 6 at | false ↦ restFault m n (elim v [ true ↦ t ∷ listed | false ↦ listed ]) (at + suc (length t)) b ]
 
-  taken-kind : (k : Kind) (m : Bool) → member t listed ≡ m → taken (stageOf (stageBy k)) (variantKind k) m ≡ on-kind k
+  taken-kind : (k : Kind) (r : Bool) → member t listed ≡ r → taken (stageOf (stageBy k)) (variantKind k) r ≡ on-kind k
   unfolding taken on-kind variantKind stageBy stageVerdict verdictFault listedAfter firstOf repeated
-  taken-kind aScript m e = refl
-  taken-kind aRegion m e = refl
+  taken-kind aScript r e = refl
+  taken-kind aRegion r e = refl
   taken-kind aVariant true e = rw e
   taken-kind aVariant false e = rw e
-  taken-kind aNone m e = refl
+  taken-kind aNone r e = refl
 
-  rest-on : (n : reading.Stage) → accept s (kindOf t) ≡ some n → restFault s listed at (t ∷ b) ≡ on-kind (kindOf t)
+  rest-on : (n : reading.Stage) → accept s (kindOf t) ≡ some n → restFault m s listed at (t ∷ b) ≡ on-kind (kindOf t)
   unfolding restFault taken isVariant
   rest-on n e =
-      let u : restFault s listed at (t ∷ b) ≡ taken n (isVariant t) (member t listed) = rw (e, restFault) in
-      u ∙ ap (λ (m : reading.Stage). taken m (isVariant t) (member t listed)) (stage-next s n (kindOf t) e) ∙ taken-kind (kindOf t) (member t listed) refl
+      let u : restFault m s listed at (t ∷ b) ≡ taken n (isVariant t) (member t listed) = rw (e, restFault) in
+      u ∙ ap (λ (k : reading.Stage). taken k (isVariant t) (member t listed)) (stage-next s n (kindOf t) e) ∙ taken-kind (kindOf t) (member t listed) refl
 
 -- Any other subtag.
 pub singles-stage : (g : Stage) (t : Tag) (singles : List Tag) → singlesAfter (stageVerdict g) t singles ≡ singles
@@ -355,19 +355,19 @@ module _ (t : Tag) (ts : List Tag) (law : Law ts) (s : isSingleton t ≡ false) 
   onward : (st n : State) (singles listed : List Tag) (back at : ℕ) → afterOther st t ≡ n → walkFault st singles listed back at (t ∷ ts) ≡ stepped st singles listed back at t ts n
   onward st n singles listed back at e = step st singles listed back at t ts n (next-other st t s ∙ e)
 
-  stops : (st : State) (singles listed seen : List Tag) (back at : ℕ) → afterOther st t ≡ Misplaced → ((f : Option Fault) → closing st back (t ∷ body ts) f ≡ f) → within st seen at (t ∷ body ts) ≡ fault 5 at
+  stops : (st : State) (singles listed seen : List Tag) (back at : ℕ) → afterOther st t ≡ Misplaced → ((f : Option Fault) → closing st back (t ∷ body ts) f ≡ f) → within st seen at (t ∷ body ts) ≡ fault (misplacedNumber st) at
       → walkFault st singles listed back at (t ∷ ts) ≡ expected st singles seen back at (t ∷ ts)
   unfolding stepped verdictOf verdictFault firstOf
   stops st singles listed seen back at e c w = onward st Misplaced singles listed back at e ∙ sym (expected-more st singles seen back at ∙ c _ ∙ rw w)
 
   -- `u`, and the other extensions
-  more-keywords : (st : State) (singles listed seen : List Tag) (back at : ℕ) → NoX singles
+  more-keywords : (st : State) → misplacedNumber st ≡ byPart .extension → (singles listed seen : List Tag) (back at : ℕ) → NoX singles
       → ((k : Bool) → wrongKeyword t ≡ k → afterOther st t ≡ elim k [ true ↦ Misplaced | false ↦ Keywords ])
-      → ((f : Option Fault) → closing st back (t ∷ body ts) f ≡ f) → within st seen at (t ∷ body ts) ≡ badTag 5 wrongKeyword at (t ∷ body ts)
+      → ((f : Option Fault) → closing st back (t ∷ body ts) f ≡ f) → within st seen at (t ∷ body ts) ≡ badTag (byPart .extension) wrongKeyword at (t ∷ body ts)
       → walkFault st singles listed back at (t ∷ ts) ≡ expected st singles seen back at (t ∷ ts)
   unfolding stepped verdictOf verdictFault singlesAfter listedAfter firstOf badTag Fits expected within closing later
-  more-keywords st singles listed seen back at nx a c w =
-      bool-cases (wrongKeyword t) (λ k. stops st singles listed seen back at (a true k) c (w ∙ rw (k, badTag)))
+  more-keywords st m singles listed seen back at nx a c w =
+      bool-cases (wrongKeyword t) (λ k. stops st singles listed seen back at (a true k) c (w ∙ rw (k, badTag, m)))
       (λ k.
       onward st Keywords singles listed back at (a false k) ∙ law Keywords singles listed seen at (at + suc (length t)) nx tt
       ∙ sym (expected-more st singles seen back at ∙ c _ ∙ rw w (rw (k, badTag))))
@@ -381,27 +381,27 @@ module _ (t : Tag) (ts : List Tag) (law : Law ts) (s : isSingleton t ≡ false) 
       ∙ sym (expected-more st singles seen back at ∙ c _ ∙ rw w)
 
   -- a language part, that of the identifier or that of `t`: its subtags b, and what follows them
-  module _ (here : Stage → State) (verdict : (w : Stage) → verdictOf (here w) ≡ stageVerdict w) (b : List Tag) (follows : Option Fault) (g : Stage) (singles listed : List Tag) (back at : ℕ)
+  module _ (here : Stage → State) (m : ℕ) (number : (w : Stage) → misplacedNumber (here w) ≡ m) (verdict : (w : Stage) → verdictOf (here w) ≡ stageVerdict w) (b : List Tag) (follows : Option Fault) (g : Stage) (singles listed : List Tag) (back at : ℕ)
       (next : (o : Option reading.Stage) → accept (stageOf g) (kindOf t) ≡ o → afterOther (here g) t ≡ placed here o (kindOf t))
-      (later-law : (w : Stage) → walkFault (here w) singles (listedAfter (stageVerdict w) t listed) at (at + suc (length t)) ts ≡ firstOf (restFault (stageOf w) (listedAfter (stageVerdict w) t listed) (at + suc (length t)) b) follows) where
-    more-stage : walkFault (here g) singles listed back at (t ∷ ts) ≡ firstOf (restFault (stageOf g) listed at (t ∷ b)) follows
+      (later-law : (w : Stage) → walkFault (here w) singles (listedAfter (stageVerdict w) t listed) at (at + suc (length t)) ts ≡ firstOf (restFault m (stageOf w) (listedAfter (stageVerdict w) t listed) (at + suc (length t)) b) follows) where
+    more-stage : walkFault (here g) singles listed back at (t ∷ ts) ≡ firstOf (restFault m (stageOf g) listed at (t ∷ b)) follows
     unfolding placed stepped verdictOf verdictFault firstOf on-kind
     more-stage = go (accept (stageOf g) (kindOf t)) refl
       where
-        go : (o : Option reading.Stage) → accept (stageOf g) (kindOf t) ≡ o → walkFault (here g) singles listed back at (t ∷ ts) ≡ firstOf (restFault (stageOf g) listed at (t ∷ b)) follows
-        go none e = onward (here g) Misplaced singles listed back at (next none e) ∙ sym (rw (rest-stop (stageOf g) singles listed back at t b e))
+        go : (o : Option reading.Stage) → accept (stageOf g) (kindOf t) ≡ o → walkFault (here g) singles listed back at (t ∷ ts) ≡ firstOf (restFault m (stageOf g) listed at (t ∷ b)) follows
+        go none e = onward (here g) Misplaced singles listed back at (next none e) ∙ rw (number g) (sym (rw (rest-stop m (stageOf g) singles listed back at t b e)))
         go (some n) e =
             let w = stageBy (kindOf t) in
-            let v = verdictFault (stageVerdict w) singles listed back at t in
+            let v = verdictFault (stageVerdict w) m singles listed back at t in
             onward (here g) (here w) singles listed back at (next (some n) e)
-            ∙ rw (verdict w, singles-stage w t singles) (ap (firstOf v) (later-law w))
-            ∙ sym (first-assoc v (restFault (stageOf w) (listedAfter (stageVerdict w) t listed) (at + suc (length t)) b) follows)
-            ∙ ap (λ (o : Option Fault). firstOf o follows) (sym (rest-on (stageOf g) singles listed back at t b n e))
+            ∙ rw (number g, verdict w, singles-stage w t singles) (ap (firstOf v) (later-law w))
+            ∙ sym (first-assoc v (restFault m (stageOf w) (listedAfter (stageVerdict w) t listed) (at + suc (length t)) b) follows)
+            ∙ ap (λ (o : Option Fault). firstOf o follows) (sym (rest-on m (stageOf g) singles listed back at t b n e))
 
   more-main : (g : Stage) (singles listed : List Tag) (back at : ℕ) → NoX singles → walkFault (Main g) singles listed back at (t ∷ ts) ≡ expected (Main g) singles listed back at (t ∷ ts)
   unfolding afterOther closing within expected verdictOf later Fits
   more-main g singles listed back at nx =
-      more-stage Main (λ w. refl) (body ts) (later singles at) g singles listed back at (λ o e. rw (e, afterOther))
+      more-stage Main (byPart .later) (λ w. refl) (λ w. refl) (body ts) (later singles at) g singles listed back at (λ o e. rw (e, afterOther))
       (λ w. law (Main w) singles (listedAfter (stageVerdict w) t listed) (listedAfter (stageVerdict w) t listed) at (at + suc (length t)) nx refl)
       ∙ sym (expected-more (Main g) singles listed back at)
 
@@ -410,24 +410,24 @@ module _ (t : Tag) (ts : List Tag) (law : Law ts) (s : isSingleton t ≡ false) 
   unfolding afterOther closing within expected verdictOf later Fits
   more-part g singles listed back at nx f a =
       let follows = firstOf (fieldsFrom [] (at + suc (length t)) (body ts)) (later singles at) in
-      more-stage Part (λ w. refl) (ahead (body ts)) follows g singles listed back at (λ o e. rw (f, e, afterOther))
+      more-stage Part (byPart .extension) (λ w. refl) (λ w. refl) (ahead (body ts)) follows g singles listed back at (λ o e. rw (f, e, afterOther))
       (λ w. law (Part w) singles (listedAfter (stageVerdict w) t listed) (listedAfter (stageVerdict w) t listed) at (at + suc (length t)) nx (refl, agrees-listed w t listed f a) ∙ first-assoc _ _ _)
       ∙ sym (expected-more (Part g) singles listed back at ∙ rw (ahead-more t (body ts) f, fields-later [] at t (body ts) f) (first-assoc _ _ _))
 
   -- the key of a field: the standard's group that it begins
   keyed : (st : State) (singles listed seen : List Tag) (back at : ℕ) → NoX singles → Agrees listed seen → isFieldKey t ≡ true
-      → stepped st singles listed back at t ts Key ≡ firstOf (groupsFault fieldFault seen at ((t ∷ ahead (body ts)) ∷ fields (body ts))) (later singles at)
+      → stepped st singles listed back at t ts Key ≡ firstOf (groupsFault (fieldFault (byPart .extension)) seen at ((t ∷ ahead (body ts)) ∷ fields (body ts))) (later singles at)
   unfolding stepped verdictOf verdictFault singlesAfter listedAfter firstOf Fits expected within closing later fieldsFrom groupsFault headTag alone fieldFault unfinished repeated
   keyed st singles listed seen back at nx a f =
       ap (firstOf (repeated at (member t listed))) (law Key singles (t ∷ listed) (t ∷ seen) at (at + suc (length t)) nx (agrees-key t listed seen a))
       ∙ rw (a t f) (go (ahead (body ts)) (member t seen) refl)
     where
       go : (b : List Tag) (m : Bool) → member t seen ≡ m
-          → firstOf (repeated at m) (unfinished at b (firstOf (firstOf (badTag 5 wrongValue (at + suc (length t)) b) (groupsFault fieldFault (t ∷ seen) (at + suc (length t) + parts b) (fields (body ts)))) (later singles at)))
-          ≡ firstOf (groupsFault fieldFault seen at ((t ∷ b) ∷ fields (body ts))) (later singles at)
+          → firstOf (repeated at m) (unfinished at b (firstOf (firstOf (badTag (byPart .extension) wrongValue (at + suc (length t)) b) (groupsFault (fieldFault (byPart .extension)) (t ∷ seen) (at + suc (length t) + parts b) (fields (body ts)))) (later singles at)))
+          ≡ firstOf (groupsFault (fieldFault (byPart .extension)) seen at ((t ∷ b) ∷ fields (body ts))) (later singles at)
       go b true e = rw (e, groupsFault)
       go [] false e = rw (e, groupsFault)
-      go (u ∷ b) false e = rw (e, groupsFault) (rw (parts-next at t (u ∷ b), badTag-on 5 wrongValue at t (u ∷ b) (key-no-value t f)))
+      go (u ∷ b) false e = rw (e, groupsFault) (rw (parts-next at t (u ∷ b), badTag-on (byPart .extension) wrongValue at t (u ∷ b) (key-no-value t f)))
 
   -- from a state in which a field may begin
   key-here : (st : State) (singles listed seen keys : List Tag) (back at : ℕ) → NoX singles → Agrees listed keys → isFieldKey t ≡ true → afterOther st t ≡ Key
@@ -440,33 +440,33 @@ module _ (t : Tag) (ts : List Tag) (law : Law ts) (s : isSingleton t ≡ false) 
       ∙ sym (expected-more st singles seen back at ∙ c _ ∙ rw w (rw (ahead-key t (body ts) f, fields-key t (body ts) f, z)))
 
   -- in a field, its key just read or not
-  value-here : (st : State) (singles listed seen : List Tag) (back at : ℕ) → NoX singles → Agrees listed seen → isFieldKey t ≡ false
+  value-here : (st : State) → misplacedNumber st ≡ byPart .extension → (singles listed seen : List Tag) (back at : ℕ) → NoX singles → Agrees listed seen → isFieldKey t ≡ false
       → ((k : Bool) → isTwo t ≡ k → afterOther st t ≡ elim k [ true ↦ Misplaced | false ↦ Field ])
       → ((f : Option Fault) → closing st back (t ∷ body ts) f ≡ f) → within st seen at (t ∷ body ts) ≡ within Field seen at (t ∷ body ts)
       → walkFault st singles listed back at (t ∷ ts) ≡ expected st singles seen back at (t ∷ ts)
   unfolding stepped verdictOf verdictFault singlesAfter listedAfter firstOf Fits expected within closing later wrongValue
-  value-here st singles listed seen back at nx a f n c w =
+  value-here st m singles listed seen back at nx a f n c w =
       bool-cases (isTwo t)
-      (λ k. stops st singles listed seen back at (n true k) c (w ∙ rw (ahead-more t (body ts) f, badTag-here 5 wrongValue at t (ahead (body ts)) (rw (k, f)))))
+      (λ k. stops st singles listed seen back at (n true k) c (w ∙ rw (ahead-more t (body ts) f, badTag-here (byPart .extension) wrongValue at t (ahead (body ts)) (rw (k, f))) (rw m)))
       (λ k.
       onward st Field singles listed back at (n false k) ∙ law Field singles listed seen at (at + suc (length t)) nx a
-      ∙ sym (expected-more st singles seen back at ∙ c _ ∙ rw w (rw (ahead-more t (body ts) f, badTag-on 5 wrongValue at t (ahead (body ts)) (rw k), fields-later seen at t (body ts) f))))
+      ∙ sym (expected-more st singles seen back at ∙ c _ ∙ rw w (rw (ahead-more t (body ts) f, badTag-on (byPart .extension) wrongValue at t (ahead (body ts)) (rw k), fields-later seen at t (body ts) f))))
 
   more-key : (singles listed seen : List Tag) (back at : ℕ) → NoX singles → Agrees listed seen → walkFault Key singles listed back at (t ∷ ts) ≡ expected Key singles seen back at (t ∷ ts)
   unfolding afterOther fieldState closing within unfinished stepped verdictOf verdictFault firstOf
   more-key singles listed seen back at nx a =
       bool-cases (isFieldKey t)
       (λ f. onward Key Unfinished singles listed back at (rw (f, afterOther, fieldState)) ∙ sym (expected-more Key singles seen back at ∙ rw (ahead-key t (body ts) f)))
-      (λ f. value-here Key singles listed seen back at nx a f (λ k e. rw (f, e, afterOther, fieldState)) (λ o. rw (ahead-more t (body ts) f)) refl)
+      (λ f. value-here Key refl singles listed seen back at nx a f (λ k e. rw (f, e, afterOther, fieldState)) (λ o. rw (ahead-more t (body ts) f)) refl)
 
   more-field : (singles listed seen : List Tag) (back at : ℕ) → NoX singles → Agrees listed seen → walkFault Field singles listed back at (t ∷ ts) ≡ expected Field singles seen back at (t ∷ ts)
   unfolding afterOther fieldState closing within firstOf badTag
   more-field singles listed seen back at nx a =
       bool-cases (isFieldKey t)
       (λ f. key-here Field singles listed seen seen back at nx a f (rw (f, afterOther, fieldState)) (λ o. refl) (rw (ahead-key t (body ts) f)))
-      (λ f. value-here Field singles listed seen back at nx a f (λ k e. rw (f, e, afterOther, fieldState)) (λ o. refl) refl)
+      (λ f. value-here Field refl singles listed seen back at nx a f (λ k e. rw (f, e, afterOther, fieldState)) (λ o. refl) refl)
 
-  fields-fault : (at : ℕ) (b : List Tag) → fieldsFault at b ≡ firstOf (partFault languageOnly at (ahead b)) (fieldsFrom [] at b)
+  fields-fault : (at : ℕ) (b : List Tag) → fieldsFault (byPart .extension) at b ≡ firstOf (partFault (byPart .extension) (byPart .extension) languageOnly at (ahead b)) (fieldsFrom [] at b)
   unfolding fieldsFault ahead fields fieldsFrom
   fields-fault at b = refl
 
@@ -486,8 +486,8 @@ module _ (t : Tag) (ts : List Tag) (law : Law ts) (s : isSingleton t ≡ false) 
   unfolding Fits afterOther closing unfinished within expected restFault firstOf
   law-more First singles listed seen back at nx fit = absurd fit
   law-more (Main g) singles listed seen back at nx fit = rw fit (more-main g singles seen back at nx)
-  law-more Unicode singles listed seen back at nx fit = more-keywords Unicode singles listed seen back at nx (λ k e. rw (e, afterOther)) (λ o. refl) refl
-  law-more Keywords singles listed seen back at nx fit = more-keywords Keywords singles listed seen back at nx (λ k e. rw (e, afterOther)) (λ o. refl) refl
+  law-more Unicode singles listed seen back at nx fit = more-keywords Unicode refl singles listed seen back at nx (λ k e. rw (e, afterOther)) (λ o. refl) refl
+  law-more Keywords singles listed seen back at nx fit = more-keywords Keywords refl singles listed seen back at nx (λ k e. rw (e, afterOther)) (λ o. refl) refl
   law-more Transform singles listed seen back at nx fit = rw fit (more-transform singles back at nx)
   law-more (Part g) singles listed seen back at nx fit =
       bool-cases (isFieldKey t)
@@ -520,25 +520,25 @@ pub parts-upTo : (ts : List Tag) → parts (upTo isX ts) ≡ parts (body ts) + p
 unfolding body heads
 parts-upTo ts = ap parts (sym (grouped-flat isSingleton (upTo isX ts))) ∙ parts-append (body ts) (flat (heads ts))
 
-grammar-parts : (ts : List Tag) → grammarFault ts ≡ firstOf (noLanguage (body ts)) (firstOf (partFault start 0 (body ts)) (behind [] (parts (body ts)) ts))
+grammar-parts : (ts : List Tag) → grammarFault byPart ts ≡ firstOf (noLanguage (byPart .first) (body ts)) (firstOf (partFault (byPart .first) (byPart .later) start 0 (body ts)) (behind [] (parts (body ts)) ts))
 unfolding grammarFault behind body heads
-grammar-parts ts = ap (λ (n : ℕ). firstOf (noLanguage (body ts)) (firstOf (partFault start 0 (body ts)) (firstOf (groupsFault extensionFault [] (parts (body ts)) (heads ts)) (privateFault n (from isX ts))))) (parts-upTo ts)
+grammar-parts ts = ap (λ (n : ℕ). firstOf (noLanguage (byPart .first) (body ts)) (firstOf (partFault (byPart .first) (byPart .later) start 0 (body ts)) (firstOf (groupsFault (extensionFault (byPart .extension)) [] (parts (body ts)) (heads ts)) (privateFault n (from isX ts))))) (parts-upTo ts)
 
-started : (t : Tag) (ts : List Tag) (g : Stage) → isSingleton t ≡ false → firstState t ≡ Main g → stageVerdict g ≡ stageVerdict Language → start t ≡ some (stageOf g) → walkFault First [] [] 0 0 (t ∷ ts) ≡ grammarFault (t ∷ ts)
+started : (t : Tag) (ts : List Tag) (g : Stage) → isSingleton t ≡ false → firstState t ≡ Main g → stageVerdict g ≡ stageVerdict Language → start t ≡ some (stageOf g) → walkFault First [] [] 0 0 (t ∷ ts) ≡ grammarFault byPart (t ∷ ts)
 unfolding stepped verdictOf verdictFault stageVerdict singlesAfter listedAfter firstOf afterOther expected closing within Fits noLanguage partFault member
 started t ts g s e v f =
     let z : parts (t ∷ body ts) ≡ 0 + suc (length t) + parts (body ts) = omega (arith, parts-next 0 t (body ts)) in
     step First [] [] 0 0 t ts (Main g) (next-other First t s ∙ e)
-    ∙ ap (λ (w : Verdict). firstOf (verdictFault w [] [] 0 0 t) (walkFault (Main g) (singlesAfter w t []) (listedAfter w t []) 0 (0 + suc (length t)) ts)) v
+    ∙ ap (λ (w : Verdict). firstOf (verdictFault w (byPart .first) [] [] 0 0 t) (walkFault (Main g) (singlesAfter w t []) (listedAfter w t []) 0 (0 + suc (length t)) ts)) v
     ∙ law ts (Main g) [] [] [] 0 (0 + suc (length t)) (λ u k. refl) refl
     ∙ sym (grammar-parts (t ∷ ts) ∙ rw (body-more t ts s, behind-more [] (parts (t ∷ body ts)) t ts s) (rw (f, partFault) (rw z)))
 
-refused : (t : Tag) (ts : List Tag) → isSingleton t ≡ false → firstState t ≡ Misplaced → start t ≡ none → walkFault First [] [] 0 0 (t ∷ ts) ≡ grammarFault (t ∷ ts)
+refused : (t : Tag) (ts : List Tag) → isSingleton t ≡ false → firstState t ≡ Misplaced → start t ≡ none → walkFault First [] [] 0 0 (t ∷ ts) ≡ grammarFault byPart (t ∷ ts)
 unfolding stepped verdictOf verdictFault firstOf afterOther noLanguage partFault
 refused t ts s e f =
     step First [] [] 0 0 t ts Misplaced (next-other First t s ∙ e) ∙ sym (grammar-parts (t ∷ ts) ∙ rw (body-more t ts s) (rw (f, partFault)))
 
-by-kind : (t : Tag) (ts : List Tag) → isSingleton t ≡ false → isLanguage t ≡ false → same t root ≡ false → (k : Kind) → kindOf t ≡ k → walkFault First [] [] 0 0 (t ∷ ts) ≡ grammarFault (t ∷ ts)
+by-kind : (t : Tag) (ts : List Tag) → isSingleton t ≡ false → isLanguage t ≡ false → same t root ≡ false → (k : Kind) → kindOf t ≡ k → walkFault First [] [] 0 0 (t ∷ ts) ≡ grammarFault byPart (t ∷ ts)
 unfolding firstState start stageOf stageVerdict
 by-kind t ts s l r aScript e = started t ts Script s (rw (l, r, e, firstState)) refl (rw (l, r, e, start))
 by-kind t ts s l r aRegion e = refused t ts s (rw (l, r, e, firstState)) (rw (l, r, e, start))
@@ -546,7 +546,7 @@ by-kind t ts s l r aVariant e = refused t ts s (rw (l, r, e, firstState)) (rw (l
 by-kind t ts s l r aNone e = refused t ts s (rw (l, r, e, firstState)) (rw (l, r, e, start))
 
 -- the walk finds the standard's first fault, and none where the standard finds none
-pub walk-grammar : (t : Tag) (ts : List Tag) → walkFault First [] [] 0 0 (t ∷ ts) ≡ grammarFault (t ∷ ts)
+pub walk-grammar : (t : Tag) (ts : List Tag) → walkFault First [] [] 0 0 (t ∷ ts) ≡ grammarFault byPart (t ∷ ts)
 unfolding firstState start stageOf stageVerdict stepped verdictOf verdictFault firstOf afterSingleton noLanguage
 walk-grammar t ts =
     bool-cases (isSingleton t) (λ s. step First [] [] 0 0 t ts Misplaced (next-single First t s) ∙ sym (grammar-parts (t ∷ ts) ∙ rw (body-single t ts s)))

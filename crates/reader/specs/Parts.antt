@@ -15,7 +15,7 @@ use Rattle.reader.specs.declared.Parts.{Parts}
 use Rattle.reader.specs.declared.Reading.{Reading}
 use Rattle.reader.specs.declared.Reading.the-variants.{Read, Refused}
 use Rattle.reader.specs.declared.Refusal.{Refusal}
-use Rattle.reader.specs.declared.Refusal.the-variants.{Empty, TooLong, BadByte, BadSize, Misplaced, Repeated, Unfinished}
+use Rattle.reader.specs.declared.Refusal.the-variants.{Empty, TooLong, BadByte, BadSize, MisplacedFirst, MisplacedLater, MisplacedExtension, Repeated, Unfinished}
 use Rattle.reader.specs.declared.Found.{Found}
 use Rattle.reader.specs.declared.Found.the-variants.{At, Nothing}
 use Rattle.reader.specs.Cuts.{cutsOf}
@@ -44,13 +44,15 @@ pub data Outcome : Type 0 where
   parts : Parts → Outcome
   refused : ℕ → ℕ → Outcome
 
--- 01, Numbers given back: the fault that each refusal of reading is
+-- 01, Numbers given back; 02, T-03: the fault that each refusal of reading is
 abbrev pub faultIs : Refusal → Fault
 faultIs Empty = record { number = 1; place = 0 }
 faultIs TooLong = record { number = 2; place = 0 }
 faultIs (BadByte at) = record { number = 3; place = at }
 faultIs (BadSize at) = record { number = 4; place = at }
-faultIs (Misplaced at) = record { number = 5; place = at }
+faultIs (MisplacedFirst at) = record { number = 5; place = at }
+faultIs (MisplacedLater at) = record { number = 15; place = at }
+faultIs (MisplacedExtension at) = record { number = 16; place = at }
 faultIs (Repeated at) = record { number = 6; place = at }
 faultIs (Unfinished at) = record { number = 7; place = at }
 

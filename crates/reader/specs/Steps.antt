@@ -25,7 +25,7 @@ use Rattle.reader.specs.declared.steps.State.the-variants.{First, Main, 
 use Rattle.reader.specs.declared.marks.Marking.the-variants.{New, Repeat}
 use Rattle.reader.specs.Marks.{markedWith}
 use Rattle.reader.specs.Parts.{Outcome, parts, refused}
-use Rattle.reader.specs.Walk.{stageOf, placed, afterSingleton, pending, verdictOf, cut, counted, unread}
+use Rattle.reader.specs.Walk.{stageOf, placed, afterSingleton, pending, verdictOf, misplacedNumber, cut, counted, unread}
 
 -- the stage that a subtag of the kind leads to, and whether it may stand there
 abbrev pub kindStage : Kind → Stage
@@ -130,7 +130,7 @@ steps st p set keys back at (t ∷ ts) =
     let n = nextFrom st (subtagOf t) in
     let q = cut n (at + length t) p in
     elim (verdictOf n) [
-      | verdicts.Misplaced ↦ refused 5 at
+      | verdicts.Misplaced ↦ refused (misplacedNumber st) at
       | verdicts.Unfinished ↦ refused 7 back
       | verdicts.Singleton ↦ elim (markedWith set (firstByte t)) [ New m ↦ steps n q m [] at (at + suc (length t)) ts | Repeat ↦ refused 6 at ]
       | verdicts.Listed ↦ elim (among (keyOf t) keys) [ true ↦ refused 6 at | false ↦ steps n q set (keys ++ (keyOf t ∷ [])) at (at + suc (length t)) ts ]

@@ -1,5 +1,5 @@
-// Inner. Reading an identifier: where its parts end, or the first refusal of numbers 1 to 7, in one walk over its
-// subtags.
+// Inner. Reading an identifier: where its parts end, or the first refusal of numbers 1 to 7, 15 and 16, in one walk
+// over its subtags.
 mod marks;
 pub mod report;
 pub mod steps;
@@ -15,7 +15,7 @@ ghost use Prim.Native.Nat.{_+_, _≤_, _<_};
 ghost use lib.ListN.{length};
 ghost use Rattle.standard.specs.Reading.{split, clean, unclean, badTag, wrongSize};
 ghost use Rattle.reader.specs.Parts.{foundAs, faultIs, outcomeOf, outcome};
-ghost use Rattle.reader.specs.Walk.{cut as cutAt, firstCut, cutStage, extended as extendedTo, unread as nothingRead};
+ghost use Rattle.reader.specs.Walk.{cut as cutAt, firstCut, cutStage, extended as extendedTo, misplacedNumber, unread as nothingRead};
 ghost use Rattle.reader.specs.Steps.{ended, stepsOf};
 
 // What the first subtag is.
@@ -44,7 +44,9 @@ pub enum Refusal {
     TooLong,
     BadByte(usize),
     BadSize(usize),
-    Misplaced(usize),
+    MisplacedFirst(usize),
+    MisplacedLater(usize),
+    MisplacedExtension(usize),
     Repeated(usize),
     Unfinished(usize),
 }
@@ -55,7 +57,7 @@ pub enum Reading {
     Refused(Refusal),
 }
 
-// Number and place as document 01 gives them.
+// Number and place as documents 01 and 02 give them.
 pub struct Fault {
     pub number: u8,
     pub place: usize,
@@ -76,7 +78,9 @@ pub fn fault_of(r: Refusal) -> Fault
         Refusal::TooLong => numbered(2, 0),
         Refusal::BadByte(at) => numbered(3, at),
         Refusal::BadSize(at) => numbered(4, at),
-        Refusal::Misplaced(at) => numbered(5, at),
+        Refusal::MisplacedFirst(at) => numbered(5, at),
+        Refusal::MisplacedLater(at) => numbered(15, at),
+        Refusal::MisplacedExtension(at) => numbered(16, at),
         Refusal::Repeated(at) => numbered(6, at),
         Refusal::Unfinished(at) => numbered(7, at),
     }
@@ -174,6 +178,28 @@ fn cut(st: State, end: usize, p: Parts) -> Parts
     }
 }
 
+// Why a subtag can't stand where the walk stands: as the first, as a later one before any singleton, after a singleton.
+fn misplaced(st: State, at: usize) -> Refusal
+    ensures { λ r. ⌜ (faultIs r .number ≡ misplacedNumber st) × (faultIs r .place ≡ at) ⌝ }
+{
+    match st {
+        State::First => Refusal::MisplacedFirst(at),
+        State::Main(_) => Refusal::MisplacedLater(at),
+        State::Unicode => Refusal::MisplacedExtension(at),
+        State::Keywords => Refusal::MisplacedExtension(at),
+        State::Transform => Refusal::MisplacedExtension(at),
+        State::Part(_) => Refusal::MisplacedExtension(at),
+        State::Key => Refusal::MisplacedExtension(at),
+        State::Field => Refusal::MisplacedExtension(at),
+        State::Other => Refusal::MisplacedExtension(at),
+        State::Others => Refusal::MisplacedExtension(at),
+        State::Private => Refusal::MisplacedExtension(at),
+        State::Privates => Refusal::MisplacedExtension(at),
+        State::Misplaced => Refusal::MisplacedExtension(at),
+        State::Unfinished => Refusal::MisplacedExtension(at),
+    }
+}
+
 // After the last subtag, which began at `at`: one extension for each mark.
 fn finish(st: State, mut p: Parts, set: u64, at: usize) -> Reading
     ensures { λ r. ⌜ outcomeOf r ≡ ended st p set at ⌝ }
@@ -211,7 +237,7 @@ fn walk(id: &[u8]) -> Reading
         let verdict = steps::verdict_of(next);
         match verdict {
             Verdict::Misplaced => {
-                return Reading::Refused(Refusal::Misplaced(at));
+                return Reading::Refused(misplaced(st, at));
             }
             Verdict::Unfinished => {
                 return Reading::Refused(Refusal::Unfinished(back));

@@ -7,12 +7,12 @@ use Prim.Native.String.{String}
 use Rattle.standard.specs.Tag.{text, order, same, headTag, onto}
 use Rattle.standard.specs.Grammar.{small, capital, digit, separator, lowerByte, every, sizeOf, startsWithDigit, oneSize, twoSize, wrongLength, languageSize, isLanguage, kind, kindOf, variantKind, isVariant, isSingleton, isTwo, isKeywordKey, isFieldKey, withTag, grouped}
 use Rattle.standard.specs.Identifier.{part, parts}
-use Rattle.standard.specs.Reading.{split, firstOf, noBytes, tooLong, clean, unclean, badTag, wrongSize, member, accept, restFault, start, languageOnly, partFault, alone, groupsFault, wrongKeyword, wrongValue, fieldFault, fieldsFault, extensionFault, privateFault, isX, upTo, from, noLanguage, grammarFault, faultOf, readAs, read}
+use Rattle.standard.specs.Reading.{split, firstOf, noBytes, tooLong, clean, unclean, badTag, wrongSize, member, accept, restFault, start, languageOnly, partFault, alone, groupsFault, wrongKeyword, wrongValue, fieldFault, fieldsFault, extensionFault, privateFault, isX, upTo, from, noLanguage, grammarFault, faultBy, faultOf, readAs, read}
 use Rattle.standard.specs.Delivery.{Bytes}
 use Rattle.standard.specs.Make.{makeOf, make}
 use Rattle.tsv.specs.Fields.{digitsOnto, decimal, field}
 use Rattle.tsv.specs.Shown.{plain, hex, safeByte, safe, dots, shown}
-use Rattle.meaning.specs.Meaning.{meaningOf}
+use Rattle.meaning.specs.Meaning.{refusalOf, meaningOf}
 use Rattle.bill_rules.specs.Bill.{leading, memberOf, beforeTab, afterTab}
 use Rattle.bill_rules.specs.Refusals.{digits, leadingZero, rangeFault, memberFault, madeFault, memberFirst, faultAt, lineFault}
 use Rattle.refused_rows.specs.Rows.{memberWords, numberText, placeOf, wordsOf, identifierBytes, faultText, headText, faultRow, rowIf, keptRow, lineRow}
@@ -41,7 +41,9 @@ cases =
     ∷ case 9 "5\t" "9\t5\t1\t2\t-\tno bytes\n"
     ∷ case 10 "64\ten\tUS" "10\t64\t3\t5\ten\\x09US\ta byte that is no letter, digit, - or _\n"
     ∷ case 123 "2\ten--US" "123\t2\t4\t5\ten--US\ta subtag of 0 or over 8 bytes\n"
-    ∷ case 1000000 "12\ten-US-Latn" "1000000\t12\t5\t9\ten-US-Latn\ta subtag that can't stand there\n"
+    ∷ case 124 "3\tx-abc" "124\t3\t5\t2\tx-abc\ta first subtag that is no language, script or root\n"
+    ∷ case 125 "3\ten-t-k0-ab" "125\t3\t16\t10\ten-t-k0-ab\ta subtag that can't stand there in an extension\n"
+    ∷ case 1000000 "12\ten-US-Latn" "1000000\t12\t15\t9\ten-US-Latn\ta subtag that can't stand there in the language part\n"
     ∷ []
 
 -- the rows as the definitions have them
@@ -53,5 +55,5 @@ unfoldable pub want : List Case → List Bytes
 want cs = map (λ (c : Case). text (c .row)) cs
 
 pub cases-hold : (A L : Bytes) → got A L cases ≡ want cases
-unfolding case cases got want lineRow keptRow rowIf faultRow headText faultText identifierBytes wordsOf placeOf numberText memberWords digits leadingZero rangeFault memberFault madeFault memberFirst faultAt lineFault leading memberOf beforeTab afterTab meaningOf plain hex safeByte safe dots shown digitsOnto decimal field makeOf make split firstOf noBytes tooLong clean unclean badTag wrongSize member accept restFault start languageOnly partFault alone groupsFault wrongKeyword wrongValue fieldFault fieldsFault extensionFault privateFault isX upTo from noLanguage grammarFault faultOf readAs read part parts small capital digit separator lowerByte every sizeOf startsWithDigit oneSize twoSize wrongLength languageSize isLanguage kind kindOf variantKind isVariant isSingleton isTwo isKeywordKey isFieldKey withTag grouped order same headTag onto
+unfolding case cases got want lineRow keptRow rowIf faultRow headText faultText identifierBytes wordsOf placeOf numberText memberWords digits leadingZero rangeFault memberFault madeFault memberFirst faultAt lineFault leading memberOf beforeTab afterTab refusalOf meaningOf plain hex safeByte safe dots shown digitsOnto decimal field makeOf make split firstOf noBytes tooLong clean unclean badTag wrongSize member accept restFault start languageOnly partFault alone groupsFault wrongKeyword wrongValue fieldFault fieldsFault extensionFault privateFault isX upTo from noLanguage grammarFault faultBy faultOf readAs read part parts small capital digit separator lowerByte every sizeOf startsWithDigit oneSize twoSize wrongLength languageSize isLanguage kind kindOf variantKind isVariant isSingleton isTwo isKeywordKey isFieldKey withTag grouped order same headTag onto
 cases-hold A L = refl

@@ -32,6 +32,11 @@ Within lo hi (some f) = (lo ≤ f .number) × (f .number ≤ hi)
 unfoldable pub ReadingNumber : ℕ → Type 0
 ReadingNumber n = (1 ≤ n) × ((n ≤ 7) ⊎ ((15 ≤ n) × (n ≤ 16)))
 
+pub at-most-16 : (n : ℕ) → ReadingNumber n → n ≤ 16
+unfolding ReadingNumber
+at-most-16 n (h, inl k) = omega arith
+at-most-16 n (h, inr k) = k .1
+
 -- a fault of reading has such a number
 unfoldable pub ReadingFault : Option Fault → Type 0
 ReadingFault none = Unit {0}

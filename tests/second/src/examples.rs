@@ -1,4 +1,5 @@
-//! Document 01, "A set of examples", run as they stand there.
+//! Document 01, "A set of examples", with the numbers of document 02, T-03, and
+//! cases of T-03.
 
 use crate::*;
 
@@ -56,12 +57,36 @@ const DONE: &[(Operation, &str, &str)] = &[
 
 /// Operation, identifier, number and place of a refusal.
 const REFUSED: &[(Operation, &str, u8, usize)] = &[
-    (Canonicalise, "en-US-Latn", 5, 6),
+    (Canonicalise, "en-US-Latn", 15, 6),
     (Canonicalise, "en-1994-1994", 6, 8),
     (Canonicalise, "en-u", 7, 3),
     (Maximise, "fr", 8, 0),
     // "How an identifier is read".
-    (Canonicalise, "root-US", 5, 5),
+    (Canonicalise, "root-US", 15, 5),
+    // T-03: the first subtag, whatever it is.
+    (Canonicalise, "u-ca-abc", 5, 0),
+    (Canonicalise, "x-abc", 5, 0),
+    (Canonicalise, "a", 5, 0),
+    (Canonicalise, "1994", 5, 0),
+    // A later one before any singleton.
+    (Canonicalise, "en-abc-u-ca", 15, 3),
+    (Canonicalise, "Latn-en-US-x-a", 15, 8),
+    (Canonicalise, "en-1994-US", 15, 8),
+    // One after a singleton, in the language part of `t` too.
+    (Canonicalise, "en-t-en-us-latn", 16, 11),
+    (Canonicalise, "en-t-latn", 16, 5),
+    (Canonicalise, "en-t-k0-ab", 16, 8),
+    (Canonicalise, "en-u-ca-12", 16, 8),
+    (Canonicalise, "root-a-bc-u-12", 16, 12),
+    // 6 and 7 stay, and so does the order.
+    (Canonicalise, "en-t-en-1994-1994", 6, 13),
+    (Canonicalise, "en-t-k0-m0-abc", 7, 5),
+    (Canonicalise, "en-US-Latn-u", 15, 6),
+    (Canonicalise, "en-u-t-latn", 7, 3),
+    (Canonicalise, "root-US-", 4, 8),
+    (Maximise, "fr-US-Latn", 15, 6),
+    (Minimise, "fr-u-12", 16, 5),
+    (Chain, "123-US-Latn", 5, 0),
 ];
 
 /// `front`, 27 times `aaaaaaaa-`, then so many letters.
@@ -82,7 +107,7 @@ pub fn call(operation: Operation, id: &[u8], lent: usize) -> (Answer, Vec<u8>) {
     (answer, out)
 }
 
-/// Each example with whether it came out as document 01 has it.
+/// Each example with whether it came out as it should.
 pub fn run() -> Vec<(String, bool)> {
     let mut results = vec![(
         "the tables pass the check".to_string(),

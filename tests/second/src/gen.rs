@@ -59,6 +59,8 @@ const ANYTHING: &Pool = &[
     "ab", "a1", "1a", "12", "abc", "123", "a12", "abcd", "1234", "12ab", "root", "true", "latn",
     "abcde", "a1b2c", "12345678", "u", "t", "x", "q", "7", "k0", "ca", "US", "en", "1994",
 ];
+/// Subtags that can stand in few places of `u` and `t`.
+const MISFITS: &Pool = &["12", "90", "1a", "a1", "us", "latn"];
 
 /// A random identifier, mostly one that is accepted, with case and separators
 /// mixed, of any length up to a little over 255 bytes.
@@ -181,7 +183,7 @@ fn extension(rng: &mut Rng, singleton: &str, subtags: &mut Vec<String>) {
 fn disturb(rng: &mut Rng, subtags: &mut Vec<String>) {
     let place = rng.below(subtags.len());
     let other = rng.below(subtags.len());
-    match rng.below(9) {
+    match rng.below(10) {
         0 => subtags.swap(place, other),
         // Repeats: anywhere, at once, or of a singleton or key with what follows.
         1 => subtags.insert(other, subtags[place].clone()),
@@ -197,8 +199,23 @@ fn disturb(rng: &mut Rng, subtags: &mut Vec<String>) {
         }
         6 => subtags.insert(other, rng.pick(ANYTHING).to_string()),
         7 => subtags[place] = rng.pick(ANYTHING).to_string(),
+        8 => misfit(rng, subtags),
         _ => subtags.push(rng.pick(ANYTHING).to_string()),
     }
+}
+
+/// A subtag put in somewhere behind a singleton, for which an extension is added
+/// where there is none.
+fn misfit(rng: &mut Rng, subtags: &mut Vec<String>) {
+    let end = subtags.len();
+    let singleton = subtags.iter().position(|subtag| subtag.len() == 1);
+    let first = singleton.unwrap_or_else(|| {
+        let added = rng.pick(&["u", "t"]);
+        extension(rng, added, subtags);
+        end
+    });
+    let place = first + 1 + rng.below(subtags.len() - first);
+    subtags.insert(place, rng.pick(MISFITS).to_string());
 }
 
 /// Fills up with subtags after `x` to a length about 255.
@@ -231,7 +248,7 @@ fn join(rng: &mut Rng, subtags: &[String]) -> Vec<u8> {
 }
 
 /// One byte changed, put in, or taken away, or the end cut off.
-fn damage(rng: &mut Rng, bytes: &mut Vec<u8>) {
+pub fn damage(rng: &mut Rng, bytes: &mut Vec<u8>) {
     let new = rng.pick(b"--__aZ019ux.\t\n\r\0\xFF");
     let place = rng.below(bytes.len());
     match rng.below(4) {

@@ -1,8 +1,8 @@
 //! A second, independent implementation of the rules of document 01: reading,
 //! the canonical form, maximising, minimising, the chain of parents, the check
 //! of the three tables, and the programs over them; and, of document 02, of the
-//! monthly bill (T-01), with the list of the lines that it refuses, and of what
-//! a byte is (T-05).
+//! monthly bill (T-01), with the list of the lines that it refuses, of the
+//! numbers that say which part was wrong (T-03), and of what a byte is (T-05).
 
 pub mod bill;
 pub mod bytes;
@@ -108,7 +108,7 @@ impl Tables {
         }
     }
 
-    /// The canonical form, or a refusal: 1 to 7, then 9.
+    /// The canonical form, or a refusal: that of reading, then 9.
     fn canonical(&self, id: &[u8]) -> Result<Identifier, Answer> {
         fitting(canonical::canonical(reading::identifier(id)?, self))
     }

@@ -1,4 +1,5 @@
-//! Document 01, "How an identifier is read", with the numbers 1 to 7.
+//! Document 01, "How an identifier is read", with the numbers 1 to 7, and document
+//! 02, T-03, which parts number 5 into 5, 15 and 16.
 
 use crate::bytes::{class_of, lower, Class};
 use crate::subtag::*;
@@ -41,7 +42,7 @@ pub struct Identifier {
     pub extensions: Vec<Extension>,
 }
 
-/// Reads an identifier, or refuses it with a number from 1 to 7.
+/// Reads an identifier, or refuses it with a number from 1 to 7, 15 or 16.
 pub fn identifier(id: &[u8]) -> Result<Identifier, Answer> {
     let mut subtags = Subtags { all: part(id)?, next: 0 };
     let main = main_part(&mut subtags)?;
@@ -126,6 +127,17 @@ impl<'a> Subtags<'a> {
     fn at_end_or_singleton(&self) -> bool {
         self.peek().is_none_or(|(_, subtag)| subtag.len() == 1)
     }
+
+    /// Refuses the next subtag, which can't stand there, by those before it
+    /// (document 02, T-03): 5 where there are none, 16 after a singleton, else 15.
+    fn misplaced(&self, place: usize) -> Answer {
+        let number = match &self.all[..self.next] {
+            [] => 5,
+            before if before.iter().any(|(_, subtag)| subtag.len() == 1) => 16,
+            _ => 15,
+        };
+        Answer::refusal(number, place)
+    }
 }
 
 /// "First: language, or script, or the word `root`", then script, region and
@@ -140,7 +152,7 @@ fn main_part(subtags: &mut Subtags) -> Result<LanguagePart, Answer> {
     }
     match subtags.peek() {
         Some((_, script)) if is_script(script) => language_part(b"und", subtags),
-        _ => Err(Answer::refusal(5, 0)),
+        _ => Err(subtags.misplaced(0)),
     }
 }
 
@@ -164,12 +176,12 @@ fn language_part(language: &[u8], subtags: &mut Subtags) -> Result<LanguagePart,
 }
 
 /// "Then extensions, each begun by a one-byte subtag (singleton)." What no
-/// extension has taken and is no singleton can't stand there (number 5).
+/// extension has taken and is no singleton can't stand there.
 fn extensions(subtags: &mut Subtags) -> Result<Vec<Extension>, Answer> {
     let mut extensions: Vec<Extension> = Vec::new();
     while let Some((place, subtag)) = subtags.peek() {
         if subtag.len() != 1 {
-            return Err(Answer::refusal(5, place));
+            return Err(subtags.misplaced(place));
         }
         subtags.next += 1;
         let singleton = lower(subtag[0]);
@@ -202,7 +214,7 @@ fn is_long(subtag: &[u8]) -> bool {
 }
 
 /// `u`: attributes, then keywords. Where there is neither, the subtag after
-/// the singleton is left over and refused with 5.
+/// the singleton is left over and refused.
 fn unicode(subtags: &mut Subtags) -> Content {
     let attributes = subtags.take_all(is_long);
     let mut keywords = Vec::new();
@@ -213,7 +225,7 @@ fn unicode(subtags: &mut Subtags) -> Content {
 }
 
 /// `t`: a language part (neither `root` nor script first), then fields. Where
-/// there is neither, the subtag after the singleton is left over, refused with 5.
+/// there is neither, the subtag after the singleton is left over and refused.
 fn transformed(subtags: &mut Subtags) -> Result<Content, Answer> {
     let language = match subtags.take(is_language) {
         Some((_, language)) => Some(language_part(language, subtags)?),
@@ -230,7 +242,7 @@ fn transformed(subtags: &mut Subtags) -> Result<Content, Answer> {
         if subtags.at_end_or_singleton() || subtags.peek().is_some_and(|(_, s)| is_field_key(s)) {
             return Err(Answer::refusal(7, place));
         }
-        // Any other subtag of two bytes is left over and refused with 5.
+        // Any other subtag of two bytes is left over and refused.
         fields.push(Keyed { key, values: subtags.take_all(is_long) });
     }
     Ok(Content::Transformed { language, fields })

@@ -154,20 +154,25 @@ fn shapes_of_subtags() {
     for (a, b) in pairs() {
         let letters = is_letter(a) && is_letter(b);
         let digits = is_digit(a) && is_digit(b);
-        let only_if = |good: bool, place: usize| if good { (0, 0) } else { (5, place) };
+        let (first, part, extension) = (5, 15, 16); // document 02, T-03
+        let only_if =
+            |good: bool, number: u8, place: usize| if good { (0, 0) } else { (number, place) };
         for (front, behind, wanted) in [
             // A language.
-            ("", "", only_if(letters, 0)),
-            ("", "bcdef", only_if(letters, 0)),
+            ("", "", only_if(letters, first, 0)),
+            ("", "bcdef", only_if(letters, first, 0)),
             // A script, or a digit and 3 letters or digits.
-            ("en-", "cd", only_if(is_digit(a) || letters, 3)),
+            ("en-", "cd", only_if(is_digit(a) || letters, part, 3)),
+            ("en-t-de-", "cd", only_if(is_digit(a) || letters, extension, 8)),
             // A region.
-            ("en-", "", only_if(letters, 3)),
-            ("en-", "7", only_if(digits, 3)),
+            ("en-", "", only_if(letters, part, 3)),
+            ("en-", "7", only_if(digits, part, 3)),
+            ("en-t-de-", "7", only_if(digits, extension, 8)),
             // A variant.
             ("en-", "cde", (0, 0)),
             // The key of a keyword, an attribute, and the key of a field.
-            ("en-u-", "", only_if(is_letter(b), 5)),
+            ("en-u-", "", only_if(is_letter(b), extension, 5)),
+            ("en-u-ca-", "", only_if(is_letter(b), extension, 8)),
             ("en-u-", "c", (0, 0)),
             (
                 "en-t-",
@@ -175,8 +180,8 @@ fn shapes_of_subtags() {
                 match (is_letter(a), is_digit(b)) {
                     (true, true) => (0, 0),
                     // A language, and then no subtag that can stand there.
-                    (true, false) => (5, 8),
-                    (false, _) => (5, 5),
+                    (true, false) => (extension, 8),
+                    (false, _) => (extension, 5),
                 },
             ),
         ] {

@@ -86,7 +86,9 @@ fn most_and_least() {
         ("fr-Zzzz-FR", 8),
         ("ff", 8),
         ("ff-GN", 8),
-        ("root-US", 5),
+        ("1994", 5),
+        ("root-US", 15),
+        ("fr-u-12", 16),
         ("de-a", 7),
     ] {
         assert_eq!(forms(id), Err(number), "{id}");

@@ -6,8 +6,8 @@ use second::*;
 #[test]
 fn every_number_occurs() {
     let mut rng = Rng::new(2);
-    let mut seen = [0; 15];
-    let mut by_table = [[0; 4]; 15];
+    let mut seen = [0; 17];
+    let mut by_table = [[0; 4]; 17];
     for _ in 0..4_000 {
         let (mut aliases, mut likely, mut parents) = gen::tables(&mut rng);
         if rng.chance(1, 4) {
@@ -39,13 +39,38 @@ fn every_number_occurs() {
 #[test]
 fn most_identifiers_are_accepted() {
     let mut rng = Rng::new(20);
-    let mut seen = [0; 8];
+    let mut seen = [0; 17];
     for _ in 0..50_000 {
         seen[read(&gen::identifier(&mut rng)).number as usize] += 1;
     }
     println!("{seen:?}");
     assert!((30_000..=35_000).contains(&seen[0]), "{seen:?}");
-    assert!(seen.iter().all(|&count| count > 200), "{seen:?}");
+    assert!(seen[1..=7].iter().all(|&count| count > 200), "{seen:?}");
+    assert!([5, 15, 16].iter().all(|&number| seen[number] > 1_000), "{seen:?}");
+    assert_eq!(seen[8..15], [0; 7], "{seen:?}");
+}
+
+/// The identifiers of trials, and those of their usage lines, meet every number
+/// of reading.
+#[test]
+fn every_number_of_reading_occurs_in_trials() {
+    let tables = [examples::ALIASES, examples::LIKELY, examples::PARENTS].map(Vec::from);
+    let (mut identifiers, mut usage) = ([0; 17], [0; 17]);
+    for seed in 0..400 {
+        let trial = trials::trial(seed, &tables);
+        for line in trial.identifiers.split(|&byte| byte == b'\n') {
+            identifiers[read(line).number as usize] += 1;
+        }
+        for line in trial.usage.split(|&byte| byte == b'\n') {
+            if let Some(tab) = line.iter().position(|&byte| byte == b'\t') {
+                usage[read(&line[tab + 1..]).number as usize] += 1;
+            }
+        }
+    }
+    println!("{identifiers:?} {usage:?}");
+    for number in (0..=7).chain(15..=16) {
+        assert!(identifiers[number] >= 50 && usage[number] >= 200, "{identifiers:?} {usage:?}");
+    }
 }
 
 /// Aliases, likely rows and parents are often hit.

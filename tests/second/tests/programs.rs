@@ -21,7 +21,8 @@ fn lines_of_keys() {
         run(format!("{long}\n{dashes}").as_bytes()),
         format!("{header}{long}\t4\t-\n{dashes}\t4\t-\n")
     );
-    assert_eq!(run(b"root-US\nen-u\n"), format!("{header}root-US\t5\t-\nen-u\t7\t-\n"));
+    assert_eq!(run(b"root-US\nen-u\n"), format!("{header}root-US\t15\t-\nen-u\t7\t-\n"));
+    assert_eq!(run(b"x-abc\nfr-t-k0-ab"), format!("{header}x-abc\t5\t-\nfr-t-k0-ab\t16\t-\n"));
 }
 
 #[test]
@@ -49,7 +50,7 @@ fn lines_of_inspect() {
         "{VIEW}iw_latn_il\t0\t0\tiw\tLatn\tIL\t0\t0\tdone\n\
         \t1\t0\t{none}\tno bytes\n\
         -\t3\t2\t{none}\ta byte that is no letter, digit, - or _\n\
-        en-US-Latn\t5\t6\t{none}\ta subtag that can't stand there\n\
+        en-US-Latn\t15\t6\t{none}\ta subtag that can't stand there in the language part\n\
         en-1994-x-a\t0\t0\ten\t-\t-\t1\t1\tdone\n"
     );
     assert_eq!(run(b"iw_latn_il\n\nen US\nen-US-Latn\nen-1994-x-a"), expected);
@@ -58,9 +59,12 @@ fn lines_of_inspect() {
         en-\t4\t3\t{none}\ta subtag of 0 or over 8 bytes\n\
         en-1994-1994\t6\t8\t{none}\ta repeated singleton, variant or t key\n\
         en-u\t7\t3\t{none}\ta singleton or t key with nothing behind it\n\
+        x-abc\t5\t0\t{none}\ta first subtag that is no language, script or root\n\
+        en-t-k0-ab\t16\t8\t{none}\ta subtag that can't stand there in an extension\n\
         fr\t0\t0\tfr\t-\t-\t0\t0\tdone\n"
     );
-    let input = format!("{}\nen-\nen-1994-1994\nen-u\nfr\n", "a".repeat(256));
+    let more = "en-\nen-1994-1994\nen-u\nx-abc\nen-t-k0-ab\nfr\n";
+    let input = format!("{}\n{more}", "a".repeat(256));
     assert_eq!(run(input.as_bytes()), expected);
 }
 
@@ -75,9 +79,10 @@ fn lines_of_inspect_over_tables() {
         fr\t0\t0\tfr\t-\t-\t0\t0\tas a key 8: no row of the likely table fits it\n\
         fr-Latn-FR\t0\t0\tfr\tLatn\tFR\t0\t0\tdone\n\
         {long}\t0\t0\tund\tLatn\t-\t0\t1\tas a key 9: its canonical or maximised form is over 255 bytes\n\
-        fr-u\t7\t3\t-\t-\t-\t0\t0\ta singleton or t key with nothing behind it\n"
+        fr-u\t7\t3\t-\t-\t-\t0\t0\ta singleton or t key with nothing behind it\n\
+        fr-u-12\t16\t5\t-\t-\t-\t0\t0\ta subtag that can't stand there in an extension\n"
     );
-    let input = format!("iw_IL\nfr\nfr-Latn-FR\n{long}\nfr-u");
+    let input = format!("iw_IL\nfr\nfr-Latn-FR\n{long}\nfr-u\nfr-u-12");
     assert_eq!(run(input.as_bytes(), ALIASES, LIKELY), expected);
     assert_eq!(
         run(b"en", b"", b""),
@@ -112,6 +117,9 @@ fn cases() {
     for (case, answer) in [
         (format!("read\t{}", hex(b"latn_us-x-a")), "0\t0\tund\tLatn\tUS\t0\t1".to_string()),
         ("read\t".to_string(), "1\t0\t-\t-\t-\t0\t0".to_string()),
+        (format!("read\t{}", hex(b"a")), "5\t0\t-\t-\t-\t0\t0".to_string()),
+        (format!("read\t{}", hex(b"root-US")), "15\t5\t-\t-\t-\t0\t0".to_string()),
+        (format!("read\t{}", hex(b"en-u-ca-12")), "16\t8\t-\t-\t-\t0\t0".to_string()),
         ("class\t7a".to_string(), "small".to_string()),
         ("class\t5A".to_string(), "capital".to_string()),
         ("class\t39".to_string(), "digit".to_string()),
@@ -128,6 +136,10 @@ fn cases() {
         (
             format!("canonicalise\t{}\t{aliases}\t4", hex(b"IW_il")),
             "10\t0\t0\t0\t0\t2e2e2e2e".to_string(),
+        ),
+        (
+            format!("canonicalise\t{}\t{aliases}\t2", hex(b"en-US-Latn")),
+            "15\t0\t6\t0\t0\t2e2e".to_string(),
         ),
         (
             format!("maximise\t{}\t{aliases}\t{likely}\t0", hex(b"zh-TW")),

@@ -98,9 +98,10 @@ fn every_answer() {
                 let (answer, out) = given.call(operation, &id, lent);
                 assert_eq!(given.plain(operation, &id, lent), (answer, out.clone()));
                 let Answer { number, table, place, length, steps } = answer;
-                assert_eq!(table == 0, number <= 10);
-                assert!(!matches!(number, 0 | 1 | 2 | 8..=11) || place == 0);
-                assert!(!matches!(number, 3..=7) || place <= id.len());
+                let by_reading = matches!(number, 1..=7 | 15 | 16);
+                assert_eq!(table != 0, (11..=14).contains(&number));
+                assert!(!matches!(number, 0 | 1 | 2 | 5 | 8..=11) || place == 0);
+                assert!(!by_reading || place <= id.len());
                 match given.form(operation, &id) {
                     Err(refusal) => assert_eq!(answer, refusal),
                     Ok(form) => assert_eq!(number, if form.len() > lent { 10 } else { 0 }),
@@ -117,8 +118,8 @@ fn every_answer() {
                 }
                 // Without a bad table the identifier is refused as in reading.
                 let report = read(&id);
-                if number <= 10 {
-                    let refused = if (1..=7).contains(&number) { (number, place) } else { (0, 0) };
+                if table == 0 {
+                    let refused = if by_reading { (number, place) } else { (0, 0) };
                     assert_eq!((report.number, report.place), refused);
                 }
             }

@@ -1,4 +1,5 @@
-//! "How an identifier is read" and the numbers 1 to 7.
+//! "How an identifier is read", the numbers 1 to 7, and 15 and 16 of document 02,
+//! T-03.
 
 use second::gen::{self, Rng};
 use second::read;
@@ -29,7 +30,7 @@ fn refusals() {
         ("abcdefghi", 4, 0),
         ("en-abcdefghi", 4, 3),
         ("x-", 4, 2),
-        ("en-u-x-abcdefghi-", 4, 7), // 4 before 5 to 7, also after x
+        ("en-u-x-abcdefghi-", 4, 7), // 4 before 5 to 7, 15 and 16, also after x
         ("en-US-Latn-x-", 4, 13),
         // First subtag.
         ("u", 5, 0),
@@ -42,23 +43,34 @@ fn refusals() {
         ("1994", 5, 0),
         ("lat1", 5, 0),
         ("abcd1", 5, 0),
-        ("root-US", 5, 5),
-        ("root-latn", 5, 5),
-        ("root-1994", 5, 5),
-        ("root_root", 5, 5),
+        ("a", 5, 0),
+        ("u-ca-abc", 5, 0),
+        ("t-en-us-latn", 5, 0),
+        ("1994-1994", 5, 0),
+        ("x-x-x", 5, 0),
+        ("a-a", 5, 0),
+        ("12-US-Latn", 5, 0), // leftmost
+        // After `root`.
+        ("root-US", 15, 5),
+        ("root-latn", 15, 5),
+        ("root-1994", 15, 5),
+        ("root_root", 15, 5),
         ("ROOT-u", 7, 5),
         // Order.
-        ("en-US-Latn", 5, 6),
-        ("en-Latn-Cyrl", 5, 8),
-        ("Latn-Cyrl", 5, 5),
-        ("Latn-en-US", 5, 8),
-        ("en-US-GB", 5, 6),
-        ("en-1994-US", 5, 8),
-        ("en-1994-Latn", 5, 8),
-        ("en-abc", 5, 3),
-        ("en-a12", 5, 3),
-        ("en-12", 5, 3),
-        ("en-a123", 5, 3),
+        ("en-US-Latn", 15, 6),
+        ("en-Latn-Cyrl", 15, 8),
+        ("Latn-Cyrl", 15, 5),
+        ("Latn-en-US", 15, 8),
+        ("en-US-GB", 15, 6),
+        ("en-1994-US", 15, 8),
+        ("en-1994-Latn", 15, 8),
+        ("en-abc", 15, 3),
+        ("en-a12", 15, 3),
+        ("en-12", 15, 3),
+        ("en-a123", 15, 3),
+        ("en-US-Latn-u", 15, 6), // leftmost
+        ("en-abc-u-12", 15, 3),
+        ("Latn-us-us-x-a", 15, 8),
         // Repeats.
         ("en-1994-1994", 6, 8),
         ("en-1994-POSIX-posix-1994", 6, 14),
@@ -83,22 +95,30 @@ fn refusals() {
         ("en-t-k0-k0-abc", 7, 5),
         ("en-t-de-k0-x-abc", 7, 8),
         // Wrong content.
-        ("en-u-a1", 5, 5),
-        ("en-u-12", 5, 5),
-        ("en-u-ca-a1", 5, 8),
-        ("en-u-foo-a1", 5, 9),
-        ("en-t-root", 5, 5),
-        ("en-t-latn", 5, 5),
-        ("en-t-1994", 5, 5),
-        ("en-t-1a", 5, 5),
-        ("en-t-12", 5, 5),
-        ("en-t-a1b", 5, 5),
-        ("en-t-k0-ab", 5, 8),
-        ("en-t-k0-1a", 5, 8),
-        ("en-t-k0-abc-ab", 5, 12),
-        ("en-t-de-latn-cyrl", 5, 13),
-        ("en-t-de-us-gb", 5, 11),
-        ("en-t-de-abc", 5, 8),
+        ("en-u-a1", 16, 5),
+        ("en-u-12", 16, 5),
+        ("en-u-ca-a1", 16, 8),
+        ("en-u-foo-a1", 16, 9),
+        ("en-t-root", 16, 5),
+        ("en-t-latn", 16, 5),
+        ("en-t-1994", 16, 5),
+        ("en-t-1a", 16, 5),
+        ("en-t-12", 16, 5),
+        ("en-t-a1b", 16, 5),
+        ("en-t-k0-ab", 16, 8),
+        ("en-t-k0-1a", 16, 8),
+        ("en-t-k0-abc-ab", 16, 12),
+        ("en-t-de-latn-cyrl", 16, 13),
+        ("en-t-de-us-gb", 16, 11),
+        ("en-t-de-abc", 16, 8),
+        ("en-t-en-us-latn", 16, 11),
+        ("en-t-de-1994-us", 16, 13),
+        ("en-u-ca-12", 16, 8),
+        ("en-u-ca-abc-1a-12", 16, 15),
+        ("root-u-12", 16, 7),
+        ("Latn-a-bc-u-12", 16, 12),
+        ("en-0-ab-t-us-us-us", 16, 16),
+        ("en-u-12-u-12", 16, 5), // leftmost
     ] {
         assert_eq!(number_and_place(id), (number, place), "{id}");
     }
@@ -227,12 +247,16 @@ fn extension(subtags: &[&str], starts: &Ends) -> Ends {
     ends
 }
 
-fn fits_grammar(subtags: &[&str]) -> bool {
+fn main_part(subtags: &[&str]) -> Ends {
     let first = Ends::from([0]);
     let mut main = one(subtags, &first, |s| s == "root");
     main.extend(after_language(subtags, &one(subtags, &first, LANGUAGE)));
     main.extend(after_script(subtags, &one(subtags, &first, |s| SCRIPT(s) && s != "root")));
-    let mut ends = any(main, |s| extension(subtags, s));
+    main
+}
+
+fn fits_grammar(subtags: &[&str]) -> bool {
+    let mut ends = any(main_part(subtags), |s| extension(subtags, s));
     let private = one(subtags, &ends, |s| s == "x");
     ends.extend(some(&private, |s| one(subtags, s, |_| true)));
     ends.contains(&subtags.len())
@@ -258,6 +282,16 @@ fn no_repeat(subtags: &[&str]) -> bool {
         && unlike(t.iter().filter(|s| TKEY(s)))
 }
 
+/// The number of a subtag that can't stand there (document 02, T-03), by what is
+/// complete in front of it: nothing, a main part alone, or that and more.
+fn misplaced(subtags: &[&str], at: usize) -> u8 {
+    match at {
+        0 => 5,
+        _ if main_part(subtags).contains(&at) => 15,
+        _ => 16,
+    }
+}
+
 /// The number, and the subtag it is about, found by trying which beginnings can
 /// be completed; `abc` completes whatever can be.
 fn by_completion(subtags: &[&str]) -> (u8, usize) {
@@ -273,7 +307,7 @@ fn by_completion(subtags: &[&str]) -> (u8, usize) {
             return (7, at - 1);
         }
         let repeats = fits_grammar(here) || fits_grammar(&more);
-        return (if repeats { 6 } else { 5 }, at);
+        return (if repeats { 6 } else { misplaced(subtags, at) }, at);
     }
     if accepted(subtags) {
         (0, 0)
@@ -283,9 +317,9 @@ fn by_completion(subtags: &[&str]) -> (u8, usize) {
 }
 
 #[test]
-fn numbers_5_to_7_are_at_the_first_subtag_that_spoils_it() {
+fn refusals_are_at_the_first_subtag_that_spoils_it() {
     let mut rng = Rng::new(5);
-    let mut seen = [0; 8];
+    let mut seen = [0; 17];
     for _ in 0..60_000 {
         let id = gen::identifier(&mut rng);
         let report = read(&id);
@@ -299,7 +333,8 @@ fn numbers_5_to_7_are_at_the_first_subtag_that_spoils_it() {
         assert_eq!((report.number, report.place), (number, place), "{text}");
         seen[number as usize] += 1;
     }
-    assert!(seen[5] > 500 && seen[6] > 200 && seen[7] > 200, "{seen:?}");
+    println!("{seen:?}");
+    assert!([5, 6, 7, 15, 16].iter().all(|&number| seen[number] > 1_000), "{seen:?}");
 }
 
 /// Every list of up to 5 subtags over a telling few.

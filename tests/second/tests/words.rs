@@ -10,7 +10,7 @@ fn words_of_the_numbers() {
         "over 255 bytes",
         "a byte that is no letter, digit, - or _",
         "a subtag of 0 or over 8 bytes",
-        "a subtag that can't stand there",
+        "a first subtag that is no language, script or root",
         "a repeated singleton, variant or t key",
         "a singleton or t key with nothing behind it",
         "no row of the likely table fits it",
@@ -20,12 +20,15 @@ fn words_of_the_numbers() {
         "a row of wrong shape",
         "a row not above the one before",
         "a row that clashes with another",
+        "a subtag that can't stand there in the language part",
+        "a subtag that can't stand there in an extension",
+        "over 512 keys",
+        "over 1,000,000 lines",
     ];
     for (number, words) in (0..).zip(words) {
         assert_eq!(meaning(number), words);
     }
-    assert_eq!((meaning(17), meaning(18)), ("over 512 keys", "over 1,000,000 lines"));
-    for number in [15, 16].into_iter().chain(19..=255) {
+    for number in 19..=255 {
         assert_eq!(meaning(number), "no such number", "{number}");
     }
     // Plain text that needs no escapes and fits into the 80 bytes that callers lend.

@@ -1,6 +1,5 @@
 -- `meaning::put_meaning` meets its contract. Assumes nothing.
 use native.Mathlib.Omega.{arith}
-use Rattle.standard.specs.Tag.{text}
 use Rattle.meaning.specs.Meaning.{meaningOf}
 use Rattle.meaning.proofs.Laws as laws
 use borrow.Author.Needs.{needs}
@@ -67,178 +66,84 @@ slice-aggregate-put-10 c = search needs
 put-requires-10 : tie.Need-put-requires-10
 put-requires-10 c κs = search needs
 
-slice-aggregate-put-11 : tie.Need-slice-aggregate-put-11
-slice-aggregate-put-11 c = search needs
-
-put-requires-11 : tie.Need-put-requires-11
-put-requires-11 c κs = search needs
-
-slice-aggregate-put-12 : tie.Need-slice-aggregate-put-12
-slice-aggregate-put-12 c = search needs
-
-put-requires-12 : tie.Need-put-requires-12
-put-requires-12 c κs = search needs
-
-slice-aggregate-put-13 : tie.Need-slice-aggregate-put-13
-slice-aggregate-put-13 c = search needs
-
-put-requires-13 : tie.Need-put-requires-13
-put-requires-13 c κs = search needs
-
-slice-aggregate-put-14 : tie.Need-slice-aggregate-put-14
-slice-aggregate-put-14 c = search needs
-
-put-requires-14 : tie.Need-put-requires-14
-put-requires-14 c κs = search needs
-
-slice-aggregate-put-15 : tie.Need-slice-aggregate-put-15
-slice-aggregate-put-15 c = search needs
-
-put-requires-15 : tie.Need-put-requires-15
-put-requires-15 c κs = search needs
-
-slice-aggregate-put-16 : tie.Need-slice-aggregate-put-16
-slice-aggregate-put-16 c = search needs
-
-put-requires-16 : tie.Need-put-requires-16
-put-requires-16 c κs = search needs
-
-slice-aggregate-put-17 : tie.Need-slice-aggregate-put-17
-slice-aggregate-put-17 c = search needs
-
-put-requires-17 : tie.Need-put-requires-17
-put-requires-17 c κs = search needs
-
-slice-aggregate-put-18 : tie.Need-slice-aggregate-put-18
-slice-aggregate-put-18 c = search needs
-
-put-requires-18 : tie.Need-put-requires-18
-put-requires-18 c κs = search needs
+put-refusal-requires : tie.Need-put-refusal-requires
+put-refusal-requires c κs = search needs
 
 same-length : tie.Need-same-length
 same-length c = search needs
 
 returns : tie.Need-returns
 unfolding meaningOf
-returns c = laws.said-of _ _ _ _ _ _ 0 (c .before .before .before .before .before .match .keys1) (omega arith) (c .before .before .put .ensures)
+returns c = laws.said-of meaningOf _ _ _ _ _ _ 0 (c .before .before .before .before .before .match .keys1) (omega arith) (c .before .before .put .ensures)
 
 same-length-2 : tie.Need-same-length-2
 same-length-2 c = search needs
 
 returns-2 : tie.Need-returns-2
 unfolding meaningOf
-returns-2 c = laws.said-of _ _ _ _ _ _ 1 (c .before .before .before .before .before .match .keys2) (omega arith) (c .before .before .put2 .ensures)
+returns-2 c = laws.said-of meaningOf _ _ _ _ _ _ 8 (c .before .before .before .before .before .match .keys2) (omega arith) (c .before .before .put2 .ensures)
 
 same-length-3 : tie.Need-same-length-3
 same-length-3 c = search needs
 
 returns-3 : tie.Need-returns-3
 unfolding meaningOf
-returns-3 c = laws.said-of _ _ _ _ _ _ 2 (c .before .before .before .before .before .match .keys3) (omega arith) (c .before .before .put3 .ensures)
+returns-3 c = laws.said-of meaningOf _ _ _ _ _ _ 9 (c .before .before .before .before .before .match .keys3) (omega arith) (c .before .before .put3 .ensures)
 
 same-length-4 : tie.Need-same-length-4
 same-length-4 c = search needs
 
 returns-4 : tie.Need-returns-4
 unfolding meaningOf
-returns-4 c = laws.said-of _ _ _ _ _ _ 3 (c .before .before .before .before .before .match .keys4) (omega arith) (c .before .before .put4 .ensures)
+returns-4 c = laws.said-of meaningOf _ _ _ _ _ _ 10 (c .before .before .before .before .before .match .keys4) (omega arith) (c .before .before .put4 .ensures)
 
 same-length-5 : tie.Need-same-length-5
 same-length-5 c = search needs
 
 returns-5 : tie.Need-returns-5
 unfolding meaningOf
-returns-5 c = laws.said-of _ _ _ _ _ _ 4 (c .before .before .before .before .before .match .keys5) (omega arith) (c .before .before .put5 .ensures)
+returns-5 c = laws.said-of meaningOf _ _ _ _ _ _ 11 (c .before .before .before .before .before .match .keys5) (omega arith) (c .before .before .put5 .ensures)
 
 same-length-6 : tie.Need-same-length-6
 same-length-6 c = search needs
 
 returns-6 : tie.Need-returns-6
 unfolding meaningOf
-returns-6 c = laws.said-of _ _ _ _ _ _ 5 (c .before .before .before .before .before .match .keys6) (omega arith) (c .before .before .put6 .ensures)
+returns-6 c = laws.said-of meaningOf _ _ _ _ _ _ 12 (c .before .before .before .before .before .match .keys6) (omega arith) (c .before .before .put6 .ensures)
 
 same-length-7 : tie.Need-same-length-7
 same-length-7 c = search needs
 
 returns-7 : tie.Need-returns-7
 unfolding meaningOf
-returns-7 c = laws.said-of _ _ _ _ _ _ 6 (c .before .before .before .before .before .match .keys7) (omega arith) (c .before .before .put7 .ensures)
+returns-7 c = laws.said-of meaningOf _ _ _ _ _ _ 13 (c .before .before .before .before .before .match .keys7) (omega arith) (c .before .before .put7 .ensures)
 
 same-length-8 : tie.Need-same-length-8
 same-length-8 c = search needs
 
 returns-8 : tie.Need-returns-8
 unfolding meaningOf
-returns-8 c = laws.said-of _ _ _ _ _ _ 7 (c .before .before .before .before .before .match .keys8) (omega arith) (c .before .before .put8 .ensures)
+returns-8 c = laws.said-of meaningOf _ _ _ _ _ _ 14 (c .before .before .before .before .before .match .keys8) (omega arith) (c .before .before .put8 .ensures)
 
 same-length-9 : tie.Need-same-length-9
 same-length-9 c = search needs
 
 returns-9 : tie.Need-returns-9
 unfolding meaningOf
-returns-9 c = laws.said-of _ _ _ _ _ _ 8 (c .before .before .before .before .before .match .keys9) (omega arith) (c .before .before .put9 .ensures)
+returns-9 c = laws.said-of meaningOf _ _ _ _ _ _ 17 (c .before .before .before .before .before .match .keys9) (omega arith) (c .before .before .put9 .ensures)
 
 same-length-10 : tie.Need-same-length-10
 same-length-10 c = search needs
 
 returns-10 : tie.Need-returns-10
 unfolding meaningOf
-returns-10 c = laws.said-of _ _ _ _ _ _ 9 (c .before .before .before .before .before .match .keys10) (omega arith) (c .before .before .put10 .ensures)
+returns-10 c = laws.said-of meaningOf _ _ _ _ _ _ 18 (c .before .before .before .before .before .match .keys10) (omega arith) (c .before .before .put10 .ensures)
 
 same-length-11 : tie.Need-same-length-11
 same-length-11 c = search needs
 
 returns-11 : tie.Need-returns-11
-unfolding meaningOf
-returns-11 c = laws.said-of _ _ _ _ _ _ 10 (c .before .before .before .before .before .match .keys11) (omega arith) (c .before .before .put11 .ensures)
-
-same-length-12 : tie.Need-same-length-12
-same-length-12 c = search needs
-
-returns-12 : tie.Need-returns-12
-unfolding meaningOf
-returns-12 c = laws.said-of _ _ _ _ _ _ 11 (c .before .before .before .before .before .match .keys12) (omega arith) (c .before .before .put12 .ensures)
-
-same-length-13 : tie.Need-same-length-13
-same-length-13 c = search needs
-
-returns-13 : tie.Need-returns-13
-unfolding meaningOf
-returns-13 c = laws.said-of _ _ _ _ _ _ 12 (c .before .before .before .before .before .match .keys13) (omega arith) (c .before .before .put13 .ensures)
-
-same-length-14 : tie.Need-same-length-14
-same-length-14 c = search needs
-
-returns-14 : tie.Need-returns-14
-unfolding meaningOf
-returns-14 c = laws.said-of _ _ _ _ _ _ 13 (c .before .before .before .before .before .match .keys14) (omega arith) (c .before .before .put14 .ensures)
-
-same-length-15 : tie.Need-same-length-15
-same-length-15 c = search needs
-
-returns-15 : tie.Need-returns-15
-unfolding meaningOf
-returns-15 c = laws.said-of _ _ _ _ _ _ 14 (c .before .before .before .before .before .match .keys15) (omega arith) (c .before .before .put15 .ensures)
-
-same-length-16 : tie.Need-same-length-16
-same-length-16 c = search needs
-
-returns-16 : tie.Need-returns-16
-unfolding meaningOf
-returns-16 c = laws.said-of _ _ _ _ _ _ 17 (c .before .before .before .before .before .match .keys16) (omega arith) (c .before .before .put16 .ensures)
-
-same-length-17 : tie.Need-same-length-17
-same-length-17 c = search needs
-
-returns-17 : tie.Need-returns-17
-unfolding meaningOf
-returns-17 c = laws.said-of _ _ _ _ _ _ 18 (c .before .before .before .before .before .match .keys17) (omega arith) (c .before .before .put17 .ensures)
-
-same-length-18 : tie.Need-same-length-18
-same-length-18 c = search needs
-
-returns-18 : tie.Need-returns-18
-returns-18 c = laws.said _ _ _ _ _ _ (text "no such number") (laws.no-such _ (c .before .before .before .before .before .match .rest)) (omega arith) (c .before .before .put18 .ensures)
+returns-11 c = rw (laws.else-refusal _ (c .before .before .before .before .match .rest)) (c .before .before .put-refusal .ensures)
 
 pub put-meaning-spec : {M : Type 1} → statement M
 put-meaning-spec =
@@ -264,22 +169,7 @@ put-meaning-spec =
     put-requires-9
     slice-aggregate-put-10
     put-requires-10
-    slice-aggregate-put-11
-    put-requires-11
-    slice-aggregate-put-12
-    put-requires-12
-    slice-aggregate-put-13
-    put-requires-13
-    slice-aggregate-put-14
-    put-requires-14
-    slice-aggregate-put-15
-    put-requires-15
-    slice-aggregate-put-16
-    put-requires-16
-    slice-aggregate-put-17
-    put-requires-17
-    slice-aggregate-put-18
-    put-requires-18
+    put-refusal-requires
     same-length
     returns
     same-length-2
@@ -301,18 +191,4 @@ put-meaning-spec =
     same-length-10
     returns-10
     same-length-11
-    returns-11
-    same-length-12
-    returns-12
-    same-length-13
-    returns-13
-    same-length-14
-    returns-14
-    same-length-15
-    returns-15
-    same-length-16
-    returns-16
-    same-length-17
-    returns-17
-    same-length-18
-    returns-18)
+    returns-11)

@@ -72,7 +72,12 @@ enum-told c = search needs
 
 returns : tie.Need-returns Inv-loop μ-loop Inv-walk μ-walk
 unfolding outcomeOf
-returns c = sym (c .before .before .before .before .before .before .walk .inv .outcome ∙ loop.turn-misplaced _ _ _ _ _ _ (told-at (c .before .before)) _ _ _ _ (c .enum-told .given .1))
+returns c =
+    rw (c .misplaced .ensures .0, c .misplaced .ensures .1)
+    (sym (c .before .before .before .before .before .before .before .walk .inv .outcome ∙ loop.turn-misplaced _ _ _ _ _ _ (told-at (c .before .before .before)) _ _ _ _ (c .before .enum-told .given .1)))
+
+misplaced-requires : tie.Need-misplaced-requires Inv-loop μ-loop Inv-walk μ-walk
+misplaced-requires c κs = search needs
 
 enum-told-2 : tie.Need-enum-told-2 Inv-loop μ-loop Inv-walk μ-walk
 enum-told-2 c = search needs
@@ -180,6 +185,7 @@ walk-spec =
     step-requires
     verdict-of-requires
     enum-told
+    misplaced-requires
     returns
     enum-told-2
     returns-2

@@ -47,5 +47,5 @@ fn main() {
     println!("{calls} calls compared");
     assert!(calls >= 1_000_000, "too few calls");
     lists::demand3(&mut tally, 2_000);
-    tally.end(&(0..=14).collect::<Vec<u8>>());
+    tally.end(&(0..=16).collect::<Vec<u8>>());
 }
