@@ -23,7 +23,7 @@ ghost use Rattle.operations.specs.Answer.{answerOf};
 ghost use Rattle.operations.specs.Both.{wholeMade};
 
 // Reads an identifier: language, script and region in canonical case before aliases, how many variants and extensions it
-// has; or the refusal (1 to 7) with its place. Each subtag of the report ends within its eight bytes.
+// has; or the refusal (1 to 7, 15, 16) with its place. Each subtag of the report ends within its eight bytes.
 pub fn read(id: &[u8]) -> Report
     ensures { λ r. ⌜ (reportIs r ≡ report (now (id .entry))) × Within r ⌝ }
 {
@@ -55,8 +55,8 @@ pub fn check(aliases: &[u8], likely: &[u8], parents: &[u8]) -> Answer
     }
 }
 
-// Canonicalises an identifier into out: the refusals of the aliases (11 to 14), of reading (1 to 7), of a form over 255
-// bytes (9) and of a lent output that is too short (10); else 0, and the form at the front of out.
+// Canonicalises an identifier into out: the refusals of the aliases (11 to 14), of reading (1 to 7, 15, 16), of a form
+// over 255 bytes (9) and of a lent output that is too short (10); else 0, and the form at the front of out.
 pub fn canonicalise(id: &[u8], aliases: &[u8], out: &mut [u8]) -> Answer
     ensures { λ r. ⌜ answerOf r (now (out .exit)) ≡ given (canonicaliseMade (now (aliases .entry)) (now (id .entry))) (now (out .entry)) ⌝ }
 {
@@ -81,8 +81,9 @@ fn operation(shorten: bool, id: &[u8], aliases: &[u8], likely: &[u8], out: &mut 
     operations::complete::answer(form_tested(shorten, id, aliases, likely, out))
 }
 
-// Maximises an identifier into out: the refusals of the tables (11 to 14) and of canonicalising (1 to 7, 9), no likely
-// row (8), a form over 255 bytes (9), a lent output that is too short (10); else 0, and the form at the front of out.
+// Maximises an identifier into out: the refusals of the tables (11 to 14) and of canonicalising (1 to 7, 15, 16, 9), no
+// likely row (8), a form over 255 bytes (9), a lent output that is too short (10); else 0, and the form at the front of
+// out.
 pub fn maximise(id: &[u8], aliases: &[u8], likely: &[u8], out: &mut [u8]) -> Answer
     ensures { λ r. ⌜ answerOf r (now (out .exit)) ≡ given (maximiseMade (now (aliases .entry)) (now (likely .entry)) (now (id .entry))) (now (out .entry)) ⌝ }
 {
@@ -96,8 +97,8 @@ pub fn minimise(id: &[u8], aliases: &[u8], likely: &[u8], out: &mut [u8]) -> Ans
     operation(true, id, aliases, likely, out)
 }
 
-// Lists the chain of an identifier into out: the refusals of the tables (11 to 14) and of canonicalising (1 to 7, 9), a
-// lent output that is too short (10); else 0, and the lines at the front of out, with their length and the steps.
+// Lists the chain of an identifier into out: the refusals of the tables (11 to 14) and of canonicalising (1 to 7, 15, 16,
+// 9), a lent output that is too short (10); else 0, and the lines at the front of out, with their length and the steps.
 pub fn chain(id: &[u8], aliases: &[u8], parents: &[u8], out: &mut [u8]) -> Answer
     ensures { λ r. ⌜ answerOf r (now (out .exit)) ≡ given (listMade (now (aliases .entry)) (now (parents .entry)) (now (id .entry))) (now (out .entry)) ⌝ }
 {
