@@ -47,9 +47,9 @@ enum altazhbey_numbers {
     ALTAZHBEY_ROW_SHAPE = 12,           /* a row of wrong shape; table, place: the row's first byte */
     ALTAZHBEY_ROW_ORDER = 13,           /* a row not above the one before; table, place: the row's first byte */
     ALTAZHBEY_ROW_CLASH = 14,           /* a row that clashes with another; table, place: the row's first byte */
-    ALTAZHBEY_MISPLACED_LATER = 15,     /* a subtag that can't stand there in the language part; behind the first one
+    ALTAZHBEY_MISPLACED_LATER = 15,     /* a subtag that can't stand there, before any extension; behind the first one
                                            and before any singleton; place: its first byte */
-    ALTAZHBEY_MISPLACED_EXTENSION = 16, /* a subtag that can't stand there in an extension; behind a singleton;
+    ALTAZHBEY_MISPLACED_EXTENSION = 16, /* a subtag that can't stand there, in an extension; behind a singleton;
                                            place: its first byte */
     ALTAZHBEY_OVER_KEYS = 17,           /* over 512 keys; given by the program bill alone */
     ALTAZHBEY_OVER_LINES = 18           /* over 1,000,000 lines; given by the program bill alone */
@@ -111,8 +111,8 @@ static inline const char *altazhbey_meaning(unsigned number) {
     case ALTAZHBEY_ROW_SHAPE: return "a row of wrong shape";
     case ALTAZHBEY_ROW_ORDER: return "a row not above the one before";
     case ALTAZHBEY_ROW_CLASH: return "a row that clashes with another";
-    case ALTAZHBEY_MISPLACED_LATER: return "a subtag that can't stand there in the language part";
-    case ALTAZHBEY_MISPLACED_EXTENSION: return "a subtag that can't stand there in an extension";
+    case ALTAZHBEY_MISPLACED_LATER: return "a subtag that can't stand there, before any extension";
+    case ALTAZHBEY_MISPLACED_EXTENSION: return "a subtag that can't stand there, in an extension";
     case ALTAZHBEY_OVER_KEYS: return "over 512 keys";
     case ALTAZHBEY_OVER_LINES: return "over 1,000,000 lines";
     default: return "no such number";

@@ -29,7 +29,7 @@ HEADERS = {
     "refused": b"line\tmember\tnumber\tplace\tidentifier\tmeaning\n",
     "tables_check": b"",
 }
-MISPLACED = b"a subtag that can't stand there in the language part"
+MISPLACED = b"a subtag that can't stand there, before any extension"
 
 # Two lines for each program, and what it prints of them over the project's tables.
 USAGE = b"1\tiw_IL\n2\ten-US-Latn\n"

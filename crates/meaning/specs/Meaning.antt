@@ -9,7 +9,7 @@ use Rattle.standard.specs.Tag.{text}
 abbrev pub Bytes : Type 0
 Bytes = List ℕ
 
--- the words of a number with which reading refuses: 1 to 7, 15, 16
+-- the words of a number with which reading refuses, 1 to 7, 15, 16; of any other, that there is no such number
 unfoldable pub refusalOf : ℕ → Bytes
 refusalOf n =
     cond (eqb n 1) (text "no bytes")
@@ -19,8 +19,8 @@ refusalOf n =
     (cond (eqb n 5) (text "a first subtag that is no language, script or root")
     (cond (eqb n 6) (text "a repeated singleton, variant or t key")
     (cond (eqb n 7) (text "a singleton or t key with nothing behind it")
-    (cond (eqb n 15) (text "a subtag that can't stand there in the language part")
-    (cond (eqb n 16) (text "a subtag that can't stand there in an extension")
+    (cond (eqb n 15) (text "a subtag that can't stand there, before any extension")
+    (cond (eqb n 16) (text "a subtag that can't stand there, in an extension")
     (text "no such number")))))))))
 
 -- the words of a number: 0, why a form (8, 9), an output (10), a table (11 to 14) or a bill (17, 18) is refused, and reading's

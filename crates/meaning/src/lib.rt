@@ -6,7 +6,7 @@ ghost use Rattle.byte_string.specs.Strings.{WritesWithin};
 ghost use Rattle.tsv.specs.Fields.{field};
 ghost use Rattle.meaning.specs.Meaning.{refusalOf, meaningOf};
 
-// Writes the words of a number with which reading refuses, as put_meaning does.
+// Writes the words of a number with which reading refuses, as put_meaning does; of any other, that there is none.
 fn put_refusal(number: u8, mark: u8, out: &mut [u8], at: usize) -> usize
     requires { ⌜ at + 80 ≤ length (now out) ⌝ }
     ensures { λ r. ⌜ WritesWithin (at + 80) (now (out .entry)) at (field (refusalOf number) mark) r (now (out .exit)) ⌝ }
@@ -30,13 +30,13 @@ fn put_refusal(number: u8, mark: u8, out: &mut [u8], at: usize) -> usize
             at,
         ),
         15 => put(
-            b"a subtag that can't stand there in the language part",
+            b"a subtag that can't stand there, before any extension",
             mark,
             out,
             at,
         ),
         16 => put(
-            b"a subtag that can't stand there in an extension",
+            b"a subtag that can't stand there, in an extension",
             mark,
             out,
             at,

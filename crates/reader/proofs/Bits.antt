@@ -59,6 +59,14 @@ or-mark (suc p) n h =
     or-step n (2 ^ suc p) ∙ ap₂ (λ (x y : ℕ). bitOr (n / 2) x * 2 + max (n % 2) y) f g
     ∙ omega (arith, or-mark p (n / 2) h)
 
+-- a number below 2 ^ k without ones is 0
+pub ones-none : (k n : ℕ) → n < 2 ^ k → ones n ≡ 0 → n ≡ 0
+ones-none zero n h e = omega arith
+ones-none (suc k) n h e =
+    let f : 2 ^ suc k ≡ 2 ^ k * 2 = pow-suc 2 k in
+    let g = ones-step n in
+    omega (arith, ones-none k (n / 2) (omega arith) (omega arith))
+
 -- the code's way to a bit
 pub bit-shift : (p n : ℕ) → n / 2 ^ p % 2 ≡ bit n p
 unfolding bit

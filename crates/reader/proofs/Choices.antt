@@ -13,7 +13,7 @@ use Rattle.reader.specs.declared.steps.Stage.the-variants.{Language, Scr
 use Rattle.reader.specs.declared.steps.State.{State}
 use Rattle.reader.specs.declared.steps.State.the-variants.{Main, Unicode, Keywords, Transform, Part, Key, Field, Other, Private, Misplaced}
 use Rattle.reader.specs.Walk.{stageOf, stageBy, placed, afterSingleton}
-use Rattle.reader.specs.Steps.{kindStage, accepts, rootKey, scriptFirst, firstFrom, stageFrom, partFrom, keywordsFrom, transformFrom, valueFrom, otherFrom, opensFrom, nextFrom}
+use Rattle.reader.specs.Steps.{kindStage, accepts, rootKey, scriptFirst, firstFrom, stageFrom, partFrom, keywordsFrom, transformFrom, valueFrom, otherFrom, opensFrom, nextFrom, misplacedFrom}
 
 -- A subtag of a language part.
 placed-kind : (here : Stage → State) (s : Stage) (k : Kind) (b : Bool) → accepts s k ≡ b
@@ -125,3 +125,18 @@ next-more st t n e g = rw (ne-eqb (t .len) 1 e, nextFrom) g
 -- the arm of a state
 pub at-state : (st s : State) (t : Subtag) → st ≡ s → (n : State) → n ≡ otherFrom s t → n ≡ otherFrom st t
 at-state st s t e n f = rw e f
+
+-- the number of a misplaced subtag, by its place and the marks of the singletons before it
+module _ (set at : ℕ) where
+  pub number-first : at ≡ 0 → 5 ≡ misplacedFrom set at
+  unfolding misplacedFrom
+  number-first e = rw (eq-eqb at 0 e)
+
+  module _ (h : at ≡ 0 → ⊥) where
+    pub number-later : set ≡ 0 → 15 ≡ misplacedFrom set at
+    unfolding misplacedFrom
+    number-later e = rw (ne-eqb at 0 h, eq-eqb set 0 e)
+
+    pub number-extension : (set ≡ 0 → ⊥) → 16 ≡ misplacedFrom set at
+    unfolding misplacedFrom
+    number-extension k = rw (ne-eqb at 0 h, ne-eqb set 0 k)

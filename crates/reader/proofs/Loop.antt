@@ -26,8 +26,8 @@ use Rattle.reader.specs.declared.steps.State.{State}
 use Rattle.reader.specs.declared.steps.State.the-variants.{First, Main, Unicode, Keywords, Transform, Part, Key, Field, Other, Others, Private, Privates, Misplaced, Unfinished}
 use Rattle.reader.specs.Marks.{markedWith}
 use Rattle.reader.specs.Parts.{Outcome, refused}
-use Rattle.reader.specs.Walk.{verdictOf, misplacedNumber, cutStage, extended, cut, unread}
-use Rattle.reader.specs.Steps.{nextFrom, among, ended, steps, stepsOf}
+use Rattle.reader.specs.Walk.{verdictOf, cutStage, extended, cut, unread}
+use Rattle.reader.specs.Steps.{nextFrom, misplacedFrom, among, ended, steps, stepsOf}
 
 -- the subtag at a place, and those behind it
 abbrev pub here : List ℕ → ℕ → Tag
@@ -64,7 +64,7 @@ module _ (s : List ℕ) (at : ℕ) (t : Subtag) (st n : State) (v : Verdict) (h 
   cons : Now ≡ steps st p set keys back at (here s at ∷ behind s at)
   cons = ap (steps st p set keys back at) (split-cons (drop at s))
 
-  pub turn-misplaced : v ≡ verdicts.Misplaced → Now ≡ refused (misplacedNumber st) at
+  pub turn-misplaced : v ≡ verdicts.Misplaced → Now ≡ refused (misplacedFrom set at) at
   unfolding steps
   turn-misplaced e = cons ∙ rw (h .next, h .verdict, e, steps)
 

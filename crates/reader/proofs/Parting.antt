@@ -20,7 +20,7 @@ use Rattle.reader.specs.declared.steps.Stage.{Stage}
 use Rattle.reader.specs.declared.steps.Stage.the-variants.{Language, Script, Region, Variant, Root}
 use Rattle.reader.specs.declared.steps.State.{State}
 use Rattle.reader.specs.declared.steps.State.the-variants.{First, Main, Unicode, Keywords, Transform, Part, Key, Field, Other, Others, Private, Privates, Misplaced, Unfinished}
-use Rattle.reader.specs.Walk.{stageOf, stageBy, placed, firstState, fieldState, opens, afterSingleton, afterOther, nextState, stageVerdict, verdictOf, misplacedNumber, verdictFault, singlesAfter, listedAfter, walkFault, cutStage, extended, cut, counted, unread, walkParts}
+use Rattle.reader.specs.Walk.{stageOf, stageBy, placed, firstState, fieldState, opens, afterSingleton, afterOther, nextState, stageVerdict, verdictOf, verdictFault, singlesAfter, listedAfter, walkFault, cutStage, extended, cut, counted, unread, walkParts}
 use Rattle.reader.specs.Cuts.{languageCut, cutsAfter, cutsOf}
 use Rattle.reader.specs.Parts.{parts as parted, startOf, partsOf, outcomeAs}
 use Rattle.reader.proofs.Bodies.{body, heads, body-more, body-single, heads-more, heads-head, heads-x, from-more, from-head, from-x}
@@ -28,13 +28,13 @@ use Rattle.reader.proofs.Walked.{step, stepped, next-single, next-other
 
 -- no refusal at a subtag, and none behind it
 record Passed (st : State) (singles listed : List Tag) (back at : ℕ) (t : Tag) (ts : List Tag) : Type 0 where
-  here : verdictFault (verdictOf (nextState st t)) (misplacedNumber st) singles listed back at t ≡ none
+  here : verdictFault (verdictOf (nextState st t)) singles listed back at t ≡ none
   on : walkFault (nextState st t) (singlesAfter (verdictOf (nextState st t)) t singles) (listedAfter (verdictOf (nextState st t)) t listed) at (at + suc (length t)) ts ≡ none
 
 passed : (st : State) (singles listed : List Tag) (back at : ℕ) (t : Tag) (ts : List Tag) → walkFault st singles listed back at (t ∷ ts) ≡ none → Passed st singles listed back at t ts
 unfolding stepped
 passed st singles listed back at t ts e =
-    let h = firstOf-none (verdictFault (verdictOf (nextState st t)) (misplacedNumber st) singles listed back at t) _ (sym (step st singles listed back at t ts (nextState st t) refl) ∙ e) in
+    let h = firstOf-none (verdictFault (verdictOf (nextState st t)) singles listed back at t) _ (sym (step st singles listed back at t ts (nextState st t) refl) ∙ e) in
     record { here = h .0; on = h .1 }
 
 -- What a language part adds: the lengths of script, region and variants with their separators, and the count.
@@ -146,9 +146,9 @@ record Inside (n : State) : Type 0 where
   cuts : (end : ℕ) (p : Parts) → cut n end p ≡ extended end p
   kept : (t : Tag) (singles : List Tag) → singlesAfter (verdictOf n) t singles ≡ singles
 
-module _ (m : ℕ) (singles listed : List Tag) (back at : ℕ) (t : Tag) where
+module _ (singles listed : List Tag) (back at : ℕ) (t : Tag) where
   Passes : State → Type 0
-  Passes n = verdictFault (verdictOf n) m singles listed back at t ≡ none
+  Passes n = verdictFault (verdictOf n) singles listed back at t ≡ none
 
   no-misplaced : {P : Type 0} → Passes Misplaced → P
   unfolding Passes verdictOf verdictFault
@@ -321,7 +321,7 @@ module _ (t : Tag) (ts : List Tag) (law : ExtensionLaw ts) where
   unfolding extended Passes
   more st p singles listed back at s i a e =
       let n = next-other st t s in
-      let h = inside _ singles listed back at t st i (rw n at (passed st singles listed back at t ts e .here)) in
+      let h = inside singles listed back at t st i (rw n at (passed st singles listed back at t ts e .here)) in
       let f = follows st (afterOther st t) p (extended (at + length t) p) singles singles listed back at t ts e n (h .cuts (at + length t) p) (h .kept t singles) in
       let k = law (afterOther st t) (extended (at + length t) p) singles (f .after) at (at + suc (length t)) (h .ext) (omega arith) (f .clear) in
       rw (f .same, count-more t ts s) (ends-grown _ p (at + length t) (parts (upTo isX ts)) (parts (upTo isX (t ∷ ts))) (length singles + behindCount ts) k (omega (arith, upTo-more t ts (single-not-x t s))))
@@ -333,7 +333,7 @@ extension-law (t ∷ ts) st p singles listed back at i a e =
     bool-cases (isSingleton t)
     (λ s.
     let n = next-single st t s in
-    let o = opened _ singles listed back at t st i (rw n at (passed st singles listed back at t ts e .here)) in
+    let o = opened singles listed back at t st i (rw n at (passed st singles listed back at t ts e .here)) in
     single t ts (extension-law ts) st p singles listed back at s (n ∙ o) a e)
     (λ s. more t ts (extension-law ts) st p singles listed back at s i a e)
 
@@ -476,7 +476,7 @@ module _ (t : Tag) (ts : List Tag) (law : MainLaw ts) (s : isSingleton t ≡ fal
       go : (o : Option reading.Stage) → accept (stageOf g) (kindOf t) ≡ o → MainEnds g p singles at (t ∷ ts)
       go none a =
           let i : nextState (Main g) t ≡ Misplaced = next-other (Main g) t s ∙ rw (a, afterOther) in
-          no-misplaced _ singles listed back at t (rw i at (passed (Main g) singles listed back at t ts e .here))
+          no-misplaced singles listed back at t (rw i at (passed (Main g) singles listed back at t ts e .here))
       go (some n) a = by-kind (kindOf t) refl n a
 
 main-law : (ts : List Tag) → MainLaw ts
@@ -531,9 +531,9 @@ module _ (t : Tag) (ts : List Tag) (s : isSingleton t ≡ false) (e : walkFault 
   begun-kind l r aScript f =
       begun Script (rw (l, r, f, firstState)) refl (record { place = omega arith; none-behind = refl; script = λ z. clash {b = true} refl (sym z); region = λ z. refl })
       (omega arith) (omega arith) refl (rw (l, r, startOf)) (rw (l, r, languageCut))
-  begun-kind l r aRegion f = no-misplaced _ [] [] 0 0 t (rw (next-other First t s, l, r, f, firstState) at (passed First [] [] 0 0 t ts e .here))
-  begun-kind l r aVariant f = no-misplaced _ [] [] 0 0 t (rw (next-other First t s, l, r, f, firstState) at (passed First [] [] 0 0 t ts e .here))
-  begun-kind l r aNone f = no-misplaced _ [] [] 0 0 t (rw (next-other First t s, l, r, f, firstState) at (passed First [] [] 0 0 t ts e .here))
+  begun-kind l r aRegion f = no-misplaced [] [] 0 0 t (rw (next-other First t s, l, r, f, firstState) at (passed First [] [] 0 0 t ts e .here))
+  begun-kind l r aVariant f = no-misplaced [] [] 0 0 t (rw (next-other First t s, l, r, f, firstState) at (passed First [] [] 0 0 t ts e .here))
+  begun-kind l r aNone f = no-misplaced [] [] 0 0 t (rw (next-other First t s, l, r, f, firstState) at (passed First [] [] 0 0 t ts e .here))
 
   begun-any : walkParts First unread [] 0 (t ∷ ts) ≡ partsOf (t ∷ ts)
   unfolding firstState stageVerdict cutStage unread startOf languageCut takesScript takesRegion
@@ -547,7 +547,7 @@ module _ (t : Tag) (ts : List Tag) (s : isSingleton t ≡ false) (e : walkFault 
 walk-parts : (t : Tag) (ts : List Tag) → walkFault First [] [] 0 0 (t ∷ ts) ≡ none → walkParts First unread [] 0 (t ∷ ts) ≡ partsOf (t ∷ ts)
 unfolding afterSingleton Passes
 walk-parts t ts e =
-    bool-cases (isSingleton t) (λ s. no-misplaced _ [] [] 0 0 t (rw (next-single First t s) at (passed First [] [] 0 0 t ts e .here))) (λ s. begun-any t ts s e)
+    bool-cases (isSingleton t) (λ s. no-misplaced [] [] 0 0 t (rw (next-single First t s) at (passed First [] [] 0 0 t ts e .here))) (λ s. begun-any t ts s e)
 
 -- the walk gives the standard's outcome
 pub walked : (t : Tag) (ts : List Tag) → outcomeAs (grammarFault byPart (t ∷ ts)) (partsOf (t ∷ ts)) ≡ outcomeAs (walkFault First [] [] 0 0 (t ∷ ts)) (walkParts First unread [] 0 (t ∷ ts))

@@ -10,7 +10,7 @@ use lib.Bits.{bitOr}
 use lib.Count.{ones}
 use borrow.Author.Tests.{eqb-true, eqb-false}
 use Rattle.reader.specs.Marks.{bit, has}
-use Rattle.reader.proofs.Bits.{ones-mark, bit-mark-same, bit-mark-other, mark-lt, or-mark, bit-zero}
+use Rattle.reader.proofs.Bits.{ones-mark, ones-none, bit-mark-same, bit-mark-other, mark-lt, or-mark, bit-zero}
 
 abbrev pub flag : Bool → ℕ
 flag true = 1
@@ -21,6 +21,14 @@ pub record Marks (n : ℕ) (l : List ℕ) : Type 0 where
   pub bits : (p : ℕ) → bit n p ≡ flag (has l p)
   pub count : ones n ≡ length l
   pub small : n < 2 ^ 37
+
+-- no place is marked exactly where the number is 0
+pub marks-empty : (n : ℕ) → Marks n [] → n ≡ 0
+marks-empty n m = ones-none 37 n (m .small) (m .count)
+
+pub marks-some : (n p : ℕ) (l : List ℕ) → Marks n (p ∷ l) → n ≡ 0 → ⊥
+unfolding ones
+marks-some n p l m e = let c : ones 0 ≡ suc (length l) = rw e at (m .count) in absurd (omega (arith, c))
 
 pub marks-none : Marks 0 []
 unfolding has ones

@@ -4,7 +4,7 @@ use mathlib.Core.Path.{_≡_, refl, sym, ap, ap₂, _∙_}
 use mathlib.Core.Bool.{Bool, true, false, cond, not, _&&_, _||_}
 use mathlib.Core.List.{List, [], _∷_, _++_, map}
 use mathlib.Core.Option.{Option, none, some}
-use Prim.Native.Nat.{ℕ, suc, _+_, _^_, compare, Ordering, Ordering·lt, Ordering·eq, Ordering·gt}
+use Prim.Native.Nat.{ℕ, zero, suc, _+_, _^_, compare, Ordering, Ordering·lt, Ordering·eq, Ordering·gt}
 use native.Mathlib.Omega.{arith}
 use lib.Bits.{bitOr}
 use lib.Count.{ones}
@@ -32,12 +32,13 @@ use Rattle.reader.specs.declared.steps.Stage.{Stage}
 use Rattle.reader.specs.declared.steps.Stage.the-variants.{Language, Script, Region, Variant, Root}
 use Rattle.reader.specs.declared.steps.State.{State}
 use Rattle.reader.specs.declared.steps.State.the-variants.{First, Main, Unicode, Keywords, Transform, Part, Key, Field, Other, Others, Private, Privates, Misplaced, Unfinished}
-use Rattle.reader.specs.Parts.{Outcome, outcomeAs}
+use Rattle.reader.specs.Parts.{Outcome, refused, outcomeAs}
 use Rattle.reader.specs.Marks.{placeOf, bit, has, markedWith}
 use Rattle.reader.specs.Walk.{stageOf, stageBy, placed, firstState, fieldState, opens, afterSingleton, afterOther, nextState, pending, stageVerdict, verdictOf, misplacedNumber, repeated, verdictFault, singlesAfter, listedAfter, walkFault, cut, unread, walkParts}
-use Rattle.reader.specs.Steps.{rootKey, scriptFirst, firstFrom, stageFrom, partFrom, keywordsFrom, transformFrom, valueFrom, otherFrom, opensFrom, nextFrom, among, ended, steps}
-use Rattle.reader.proofs.Sets.{Marks, marks-none, marks-more, seen-test}
+use Rattle.reader.specs.Steps.{rootKey, scriptFirst, firstFrom, stageFrom, partFrom, keywordsFrom, transformFrom, valueFrom, otherFrom, opensFrom, nextFrom, misplacedFrom, among, ended, steps}
+use Rattle.reader.proofs.Sets.{Marks, marks-empty, marks-some, marks-none, marks-more, seen-test}
 use Rattle.reader.proofs.Places.{place-in, place-same}
+use Rattle.reader.proofs.Choices.{number-first, number-later, number-extension}
 use Rattle.reader.proofs.Walked.{step, stepped}
 
 -- Sizes.
@@ -285,6 +286,13 @@ held-none : Held [] []
 unfolding among member
 held-none t p = refl
 
+-- 02, T-03: the number of a misplaced subtag by the marks is that by the singletons
+number-from : (set at : ℕ) (singles : List Tag) → Marks set (places singles) → misplacedFrom set at ≡ misplacedNumber singles at
+unfolding misplacedNumber places
+number-from set zero singles m = sym (number-first set 0 refl)
+number-from set (suc at) [] m = sym (number-later set (suc at) (λ e. absurd (omega arith)) (marks-empty set m))
+number-from set (suc at) (s ∷ singles) m = sym (number-extension set (suc at) (λ e. absurd (omega arith)) (marks-some set (placeOf (firstByte s)) (places singles) m))
+
 -- The law.
 pub record Fine (t : Tag) : Type 0 where
   pub plain : PlainTag t
@@ -311,7 +319,7 @@ module _ (t : Tag) (ts : List Tag) (fine : Fine t) (law : Law ts) (st : State) (
   -- the walk goes on, or stops
   result : Verdict → Outcome
   result v =
-      outcomeAs (firstOf (verdictFault v (misplacedNumber st) singles listed back at t) (walkFault next (singlesAfter v t singles) (listedAfter v t listed) at (at + suc (length t)) ts))
+      outcomeAs (firstOf (verdictFault v singles listed back at t) (walkFault next (singlesAfter v t singles) (listedAfter v t listed) at (at + suc (length t)) ts))
       (walkParts next (cut next (at + length t) p) (singlesAfter v t singles) (at + suc (length t)) ts)
 
   -- the walk goes on with these singletons and these variants or keys
@@ -346,7 +354,7 @@ module _ (t : Tag) (ts : List Tag) (fine : Fine t) (law : Law ts) (st : State) (
 
   by-verdict : (v : Verdict) → verdictOf next ≡ v → steps st p set keys back at (t ∷ ts) ≡ result v
   unfolding steps next result verdictFault singlesAfter listedAfter firstOf outcomeAs
-  by-verdict verdicts.Misplaced e = rw (next-from t (fine .plain) st, e, steps)
+  by-verdict verdicts.Misplaced e = rw (next-from t (fine .plain) st, e, steps) (ap (λ (n : ℕ). refused n at) (number-from set at singles (h .marks)))
   by-verdict verdicts.Unfinished e = rw (next-from t (fine .plain) st, e, steps)
   by-verdict verdicts.Plain e = rw (next-from t (fine .plain) st, e, steps) (goes set keys singles listed h)
   by-verdict verdicts.Listed e = on-listed e (member t listed) refl

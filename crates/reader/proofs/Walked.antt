@@ -5,7 +5,7 @@ use mathlib.Core.Path.{_≡_, refl, sym, ap, _∙_}
 use mathlib.Core.Bool.{Bool, true, false, _&&_, _||_}
 use mathlib.Core.List.{List, [], _∷_, _++_}
 use mathlib.Core.Option.{Option, none, some, Option·none-ne-some}
-use Prim.Native.Nat.{ℕ, suc, _+_}
+use Prim.Native.Nat.{ℕ, zero, suc, _+_, _≤_}
 use native.Mathlib.Omega.{arith}
 use lib.ListN.{length}
 use Rattle.standard.specs.Tag.{Tag, order, same, headTag}
@@ -41,11 +41,11 @@ first-elim (some f) w = refl
 
 module _ (st : State) (singles listed : List Tag) (back at : ℕ) (t : Tag) (ts : List Tag) where
   unfoldable pub stepped : State → Option Fault
-  stepped n = firstOf (verdictFault (verdictOf n) (misplacedNumber st) singles listed back at t) (walkFault n (singlesAfter (verdictOf n) t singles) (listedAfter (verdictOf n) t listed) at (at + suc (length t)) ts)
+  stepped n = firstOf (verdictFault (verdictOf n) singles listed back at t) (walkFault n (singlesAfter (verdictOf n) t singles) (listedAfter (verdictOf n) t listed) at (at + suc (length t)) ts)
 
   pub step : (n : State) → nextState st t ≡ n → walkFault st singles listed back at (t ∷ ts) ≡ stepped n
   unfolding walkFault stepped
-  step n e = first-elim (verdictFault (verdictOf (nextState st t)) (misplacedNumber st) singles listed back at t) _ ∙ ap stepped e
+  step n e = first-elim (verdictFault (verdictOf (nextState st t)) singles listed back at t) _ ∙ ap stepped e
 
 pub next-single : (st : State) (t : Tag) → isSingleton t ≡ true → nextState st t ≡ afterSingleton st (opens t)
 unfolding nextState
@@ -120,30 +120,71 @@ Fits Unfinished listed seen = ⊥
 abbrev NoX : List Tag → Type 0
 NoX singles = (t : Tag) → isX t ≡ true → member t singles ≡ false
 
+-- the number of a misplaced subtag in a state
+abbrev numberIn : State → ℕ
+numberIn First = byPart .first
+numberIn (Main s) = byPart .later
+numberIn Unicode = byPart .extension
+numberIn Keywords = byPart .extension
+numberIn Transform = byPart .extension
+numberIn (Part s) = byPart .extension
+numberIn Key = byPart .extension
+numberIn Field = byPart .extension
+numberIn Other = byPart .extension
+numberIn Others = byPart .extension
+numberIn Private = byPart .extension
+numberIn Privates = byPart .extension
+numberIn Misplaced = byPart .extension
+numberIn Unfinished = byPart .extension
+
+-- what has come before the place `at`: `x` is none of the singletons, and with these m is the number from there on
+record Before (m : ℕ) (singles : List Tag) (at : ℕ) : Type 0 where
+  no-x : NoX singles
+  number : (p : ℕ) → at ≤ p → misplacedNumber singles p ≡ m
+
+further : (m : ℕ) (singles : List Tag) (at n : ℕ) → Before m singles at → Before m singles (at + n)
+further m singles at n b = record { no-x = b .no-x; number = λ p h. b .number p (omega arith) }
+
+before-first : (n : ℕ) → Before (byPart .later) [] (0 + suc n)
+unfolding member misplacedNumber
+before-first n = record { no-x = λ t e. refl; number = after }
+  where
+    after : (p : ℕ) → 0 + suc n ≤ p → misplacedNumber [] p ≡ byPart .later
+    after zero h = absurd (omega arith)
+    after (suc p) h = refl
+
+before-single : (m : ℕ) (t : Tag) (singles : List Tag) (at n : ℕ) → m ≡ byPart .extension → NoX (t ∷ singles) → Before m (t ∷ singles) (at + suc n)
+unfolding misplacedNumber
+before-single m t singles at n e nx = record { no-x = nx; number = after }
+  where
+    after : (p : ℕ) → at + suc n ≤ p → misplacedNumber (t ∷ singles) p ≡ m
+    after zero h = absurd (omega arith)
+    after (suc p) h = sym e
+
 unfoldable expected : State → List Tag → List Tag → ℕ → ℕ → List Tag → Option Fault
 expected st singles seen back at ts = closing st back (body ts) (firstOf (within st seen at (body ts)) (behind singles (at + parts (body ts)) ts))
 
 -- the law at the subtags `ts`
 abbrev Law : List Tag → Type 0
-Law ts = (st : State) (singles listed seen : List Tag) (back at : ℕ) → NoX singles → Fits st listed seen → walkFault st singles listed back at ts ≡ expected st singles seen back at ts
+Law ts = (st : State) (singles listed seen : List Tag) (back at : ℕ) → Before (numberIn st) singles at → Fits st listed seen → walkFault st singles listed back at ts ≡ expected st singles seen back at ts
 
 -- Nothing is left.
 law-nil : Law []
 unfolding walkFault pending expected closing within unfinished body grouped upTo ahead fields fieldsFrom fieldsFault partFault restFault badTag groupsFault firstOf behind heads from privateFault Fits
-law-nil First singles listed seen back at nx fit = absurd fit
-law-nil (Main s) singles listed seen back at nx fit = refl
-law-nil Unicode singles listed seen back at nx fit = refl
-law-nil Keywords singles listed seen back at nx fit = refl
-law-nil Transform singles listed seen back at nx fit = refl
-law-nil (Part s) singles listed seen back at nx fit = refl
-law-nil Key singles listed seen back at nx fit = refl
-law-nil Field singles listed seen back at nx fit = refl
-law-nil Other singles listed seen back at nx fit = refl
-law-nil Others singles listed seen back at nx fit = refl
-law-nil Private singles listed seen back at nx fit = absurd fit
-law-nil Privates singles listed seen back at nx fit = absurd fit
-law-nil Misplaced singles listed seen back at nx fit = absurd fit
-law-nil Unfinished singles listed seen back at nx fit = absurd fit
+law-nil First singles listed seen back at b fit = absurd fit
+law-nil (Main s) singles listed seen back at b fit = refl
+law-nil Unicode singles listed seen back at b fit = refl
+law-nil Keywords singles listed seen back at b fit = refl
+law-nil Transform singles listed seen back at b fit = refl
+law-nil (Part s) singles listed seen back at b fit = refl
+law-nil Key singles listed seen back at b fit = refl
+law-nil Field singles listed seen back at b fit = refl
+law-nil Other singles listed seen back at b fit = refl
+law-nil Others singles listed seen back at b fit = refl
+law-nil Private singles listed seen back at b fit = absurd fit
+law-nil Privates singles listed seen back at b fit = absurd fit
+law-nil Misplaced singles listed seen back at b fit = absurd fit
+law-nil Unfinished singles listed seen back at b fit = absurd fit
 
 -- Private use, to the end.
 pub afterPrivates : (t : Tag) → nextState Privates t ≡ Privates
@@ -199,6 +240,7 @@ behind-head singles at t ts e f = rw (heads-head t ts e f, from-head t ts e f) (
 -- the state that it begins
 record Begun (o : State) (at next : ℕ) (t : Tag) (b : List Tag) : Type 0 where
   verdict : verdictOf o ≡ verdictOf Other
+  number : numberIn o ≡ byPart .extension
   fits : Fits o [] []
   closed : (f : Option Fault) → closing o at b f ≡ unfinished at b f
   inside : extensionFault (byPart .extension) at (t ∷ b) ≡ within o [] next b
@@ -206,10 +248,10 @@ record Begun (o : State) (at next : ℕ) (t : Tag) (b : List Tag) : Type 0 where
 begun : (at next : ℕ) (t : Tag) (b : List Tag) → next ≡ at + 2 → isX t ≡ false → Begun (opens t) at next t b
 unfolding opens extensionFault within closing Fits verdictOf
 begun at next t b n x =
-    bool-cases (same t uTag) (λ e. rw (e, opens, extensionFault, n) (record { verdict = refl; fits = tt; closed = λ f. refl; inside = rw (e, extensionFault) }))
+    bool-cases (same t uTag) (λ e. rw (e, opens, extensionFault, n) (record { verdict = refl; number = refl; fits = tt; closed = λ f. refl; inside = rw (e, extensionFault) }))
     (λ e. bool-cases (same t tTag)
-    (λ f. rw (e, f, opens, n) (record { verdict = refl; fits = refl; closed = λ f. refl; inside = rw (e, f, extensionFault) }))
-    (λ f. rw (e, f, x, opens) (record { verdict = refl; fits = tt; closed = λ f. refl; inside = rw (e, f, extensionFault) })))
+    (λ f. rw (e, f, opens, n) (record { verdict = refl; number = refl; fits = refl; closed = λ f. refl; inside = rw (e, f, extensionFault) }))
+    (λ f. rw (e, f, x, opens) (record { verdict = refl; number = refl; fits = tt; closed = λ f. refl; inside = rw (e, f, extensionFault) })))
 
 boundary-head : (st : State) (singles listed : List Tag) (back at : ℕ) (t : Tag) (ts : List Tag) → Law ts → nextState st t ≡ opens t → isSingleton t ≡ true → isX t ≡ false → NoX singles
     → walkFault st singles listed back at (t ∷ ts) ≡ behind singles at (t ∷ ts)
@@ -218,7 +260,7 @@ boundary-head st singles listed back at t ts law e s x nx =
     let b = begun at (at + suc (length t)) t (body ts) (ap (λ (n : ℕ). at + suc n) (single-length t s)) x in
     step st singles listed back at t ts (opens t) e
     ∙ rw (b .verdict)
-    (ap (firstOf (repeated at (member t singles))) (law (opens t) (t ∷ singles) [] [] at (at + suc (length t)) (no-x singles t nx x) (b .fits) ∙ b .closed _ ∙ rw (b .inside)))
+    (ap (firstOf (repeated at (member t singles))) (law (opens t) (t ∷ singles) [] [] at (at + suc (length t)) (before-single (numberIn (opens t)) t singles at (length t) (b .number) (no-x singles t nx x)) (b .fits) ∙ b .closed _ ∙ rw (b .inside)))
     ∙ sym (behind-head singles at t ts s x)
 
 boundary : (st : State) (singles listed : List Tag) (back at : ℕ) (t : Tag) (ts : List Tag) → Law ts → afterSingleton st (opens t) ≡ opens t → isSingleton t ≡ true → NoX singles
@@ -242,20 +284,20 @@ module _ (t : Tag) (ts : List Tag) (law : Law ts) (s : isSingleton t ≡ true) w
 
   law-single : Law (t ∷ ts)
   unfolding afterSingleton closing within unfinished ahead fields fieldsFrom grouped restFault badTag groupsFault firstOf Fits
-  law-single First singles listed seen back at nx fit = absurd fit
-  law-single (Main g) singles listed seen back at nx fit = closed (Main g) singles listed seen back at nx refl (λ f. refl) refl
-  law-single Unicode singles listed seen back at nx fit = left-open Unicode singles listed seen back at refl (λ f. refl)
-  law-single Keywords singles listed seen back at nx fit = closed Keywords singles listed seen back at nx refl (λ f. refl) refl
-  law-single Transform singles listed seen back at nx fit = left-open Transform singles listed seen back at refl (λ f. refl)
-  law-single (Part g) singles listed seen back at nx fit = closed (Part g) singles listed seen back at nx refl (λ f. refl) refl
-  law-single Key singles listed seen back at nx fit = left-open Key singles listed seen back at refl (λ f. refl)
-  law-single Field singles listed seen back at nx fit = closed Field singles listed seen back at nx refl (λ f. refl) refl
-  law-single Other singles listed seen back at nx fit = left-open Other singles listed seen back at refl (λ f. refl)
-  law-single Others singles listed seen back at nx fit = closed Others singles listed seen back at nx refl (λ f. refl) refl
-  law-single Private singles listed seen back at nx fit = absurd fit
-  law-single Privates singles listed seen back at nx fit = absurd fit
-  law-single Misplaced singles listed seen back at nx fit = absurd fit
-  law-single Unfinished singles listed seen back at nx fit = absurd fit
+  law-single First singles listed seen back at b fit = absurd fit
+  law-single (Main g) singles listed seen back at b fit = closed (Main g) singles listed seen back at (b .no-x) refl (λ f. refl) refl
+  law-single Unicode singles listed seen back at b fit = left-open Unicode singles listed seen back at refl (λ f. refl)
+  law-single Keywords singles listed seen back at b fit = closed Keywords singles listed seen back at (b .no-x) refl (λ f. refl) refl
+  law-single Transform singles listed seen back at b fit = left-open Transform singles listed seen back at refl (λ f. refl)
+  law-single (Part g) singles listed seen back at b fit = closed (Part g) singles listed seen back at (b .no-x) refl (λ f. refl) refl
+  law-single Key singles listed seen back at b fit = left-open Key singles listed seen back at refl (λ f. refl)
+  law-single Field singles listed seen back at b fit = closed Field singles listed seen back at (b .no-x) refl (λ f. refl) refl
+  law-single Other singles listed seen back at b fit = left-open Other singles listed seen back at refl (λ f. refl)
+  law-single Others singles listed seen back at b fit = closed Others singles listed seen back at (b .no-x) refl (λ f. refl) refl
+  law-single Private singles listed seen back at b fit = absurd fit
+  law-single Privates singles listed seen back at b fit = absurd fit
+  law-single Misplaced singles listed seen back at b fit = absurd fit
+  law-single Unfinished singles listed seen back at b fit = absurd fit
 
 -- A subtag of a language part, in the walk's words.
 stage-next : (s n : reading.Stage) (k : Kind) → accept s k ≡ some n → n ≡ stageOf (stageBy k)
@@ -280,7 +322,7 @@ module _ (m : ℕ) (s : reading.Stage) (singles listed : List Tag) (back at : �
   rest-stop e = rw (e, restFault)
 
   on-kind : Kind → Option Fault
-  on-kind k = firstOf (verdictFault (stageVerdict (stageBy k)) m singles listed back at t) (restFault m (stageOf (stageBy k)) (listedAfter (stageVerdict (stageBy k)) t listed) (at + suc (length t)) b)
+  on-kind k = firstOf (verdictFault (stageVerdict (stageBy k)) singles listed back at t) (restFault m (stageOf (stageBy k)) (listedAfter (stageVerdict (stageBy k)) t listed) (at + suc (length t)) b)
 
   -- by the kind, and for a variant by whether it is a repeat
   taken : reading.Stage → Bool → Bool → Option Fault
@@ -355,33 +397,33 @@ module _ (t : Tag) (ts : List Tag) (law : Law ts) (s : isSingleton t ≡ false) 
   onward : (st n : State) (singles listed : List Tag) (back at : ℕ) → afterOther st t ≡ n → walkFault st singles listed back at (t ∷ ts) ≡ stepped st singles listed back at t ts n
   onward st n singles listed back at e = step st singles listed back at t ts n (next-other st t s ∙ e)
 
-  stops : (st : State) (singles listed seen : List Tag) (back at : ℕ) → afterOther st t ≡ Misplaced → ((f : Option Fault) → closing st back (t ∷ body ts) f ≡ f) → within st seen at (t ∷ body ts) ≡ fault (misplacedNumber st) at
+  stops : (m : ℕ) (st : State) (singles listed seen : List Tag) (back at : ℕ) → Before m singles at → afterOther st t ≡ Misplaced → ((f : Option Fault) → closing st back (t ∷ body ts) f ≡ f) → within st seen at (t ∷ body ts) ≡ fault m at
       → walkFault st singles listed back at (t ∷ ts) ≡ expected st singles seen back at (t ∷ ts)
   unfolding stepped verdictOf verdictFault firstOf
-  stops st singles listed seen back at e c w = onward st Misplaced singles listed back at e ∙ sym (expected-more st singles seen back at ∙ c _ ∙ rw w)
+  stops m st singles listed seen back at h e c w = onward st Misplaced singles listed back at e ∙ rw (h .number at (omega arith)) (sym (expected-more st singles seen back at ∙ c _ ∙ rw w))
 
   -- `u`, and the other extensions
-  more-keywords : (st : State) → misplacedNumber st ≡ byPart .extension → (singles listed seen : List Tag) (back at : ℕ) → NoX singles
+  more-keywords : (st : State) (singles listed seen : List Tag) (back at : ℕ) → Before (byPart .extension) singles at
       → ((k : Bool) → wrongKeyword t ≡ k → afterOther st t ≡ elim k [ true ↦ Misplaced | false ↦ Keywords ])
       → ((f : Option Fault) → closing st back (t ∷ body ts) f ≡ f) → within st seen at (t ∷ body ts) ≡ badTag (byPart .extension) wrongKeyword at (t ∷ body ts)
       → walkFault st singles listed back at (t ∷ ts) ≡ expected st singles seen back at (t ∷ ts)
   unfolding stepped verdictOf verdictFault singlesAfter listedAfter firstOf badTag Fits expected within closing later
-  more-keywords st m singles listed seen back at nx a c w =
-      bool-cases (wrongKeyword t) (λ k. stops st singles listed seen back at (a true k) c (w ∙ rw (k, badTag, m)))
+  more-keywords st singles listed seen back at nx a c w =
+      bool-cases (wrongKeyword t) (λ k. stops (byPart .extension) st singles listed seen back at nx (a true k) c (w ∙ rw (k, badTag)))
       (λ k.
-      onward st Keywords singles listed back at (a false k) ∙ law Keywords singles listed seen at (at + suc (length t)) nx tt
+      onward st Keywords singles listed back at (a false k) ∙ law Keywords singles listed seen at (at + suc (length t)) (further (byPart .extension) singles at (suc (length t)) nx) tt
       ∙ sym (expected-more st singles seen back at ∙ c _ ∙ rw w (rw (k, badTag))))
 
-  more-others : (st : State) (singles listed seen : List Tag) (back at : ℕ) → NoX singles → afterOther st t ≡ Others
+  more-others : (st : State) (singles listed seen : List Tag) (back at : ℕ) → Before (byPart .extension) singles at → afterOther st t ≡ Others
       → ((f : Option Fault) → closing st back (t ∷ body ts) f ≡ f) → within st seen at (t ∷ body ts) ≡ none
       → walkFault st singles listed back at (t ∷ ts) ≡ expected st singles seen back at (t ∷ ts)
   unfolding stepped verdictOf verdictFault singlesAfter listedAfter firstOf Fits expected within closing later
   more-others st singles listed seen back at nx a c w =
-      onward st Others singles listed back at a ∙ law Others singles listed seen at (at + suc (length t)) nx tt
+      onward st Others singles listed back at a ∙ law Others singles listed seen at (at + suc (length t)) (further (byPart .extension) singles at (suc (length t)) nx) tt
       ∙ sym (expected-more st singles seen back at ∙ c _ ∙ rw w)
 
   -- a language part, that of the identifier or that of `t`: its subtags b, and what follows them
-  module _ (here : Stage → State) (m : ℕ) (number : (w : Stage) → misplacedNumber (here w) ≡ m) (verdict : (w : Stage) → verdictOf (here w) ≡ stageVerdict w) (b : List Tag) (follows : Option Fault) (g : Stage) (singles listed : List Tag) (back at : ℕ)
+  module _ (m : ℕ) (here : Stage → State) (verdict : (w : Stage) → verdictOf (here w) ≡ stageVerdict w) (b : List Tag) (follows : Option Fault) (g : Stage) (singles listed : List Tag) (back at : ℕ) (number : misplacedNumber singles at ≡ m)
       (next : (o : Option reading.Stage) → accept (stageOf g) (kindOf t) ≡ o → afterOther (here g) t ≡ placed here o (kindOf t))
       (later-law : (w : Stage) → walkFault (here w) singles (listedAfter (stageVerdict w) t listed) at (at + suc (length t)) ts ≡ firstOf (restFault m (stageOf w) (listedAfter (stageVerdict w) t listed) (at + suc (length t)) b) follows) where
     more-stage : walkFault (here g) singles listed back at (t ∷ ts) ≡ firstOf (restFault m (stageOf g) listed at (t ∷ b)) follows
@@ -389,37 +431,37 @@ module _ (t : Tag) (ts : List Tag) (law : Law ts) (s : isSingleton t ≡ false) 
     more-stage = go (accept (stageOf g) (kindOf t)) refl
       where
         go : (o : Option reading.Stage) → accept (stageOf g) (kindOf t) ≡ o → walkFault (here g) singles listed back at (t ∷ ts) ≡ firstOf (restFault m (stageOf g) listed at (t ∷ b)) follows
-        go none e = onward (here g) Misplaced singles listed back at (next none e) ∙ rw (number g) (sym (rw (rest-stop m (stageOf g) singles listed back at t b e)))
+        go none e = onward (here g) Misplaced singles listed back at (next none e) ∙ rw number (sym (rw (rest-stop m (stageOf g) singles listed back at t b e)))
         go (some n) e =
             let w = stageBy (kindOf t) in
-            let v = verdictFault (stageVerdict w) m singles listed back at t in
+            let v = verdictFault (stageVerdict w) singles listed back at t in
             onward (here g) (here w) singles listed back at (next (some n) e)
-            ∙ rw (number g, verdict w, singles-stage w t singles) (ap (firstOf v) (later-law w))
+            ∙ rw (verdict w, singles-stage w t singles) (ap (firstOf v) (later-law w))
             ∙ sym (first-assoc v (restFault m (stageOf w) (listedAfter (stageVerdict w) t listed) (at + suc (length t)) b) follows)
             ∙ ap (λ (o : Option Fault). firstOf o follows) (sym (rest-on m (stageOf g) singles listed back at t b n e))
 
-  more-main : (g : Stage) (singles listed : List Tag) (back at : ℕ) → NoX singles → walkFault (Main g) singles listed back at (t ∷ ts) ≡ expected (Main g) singles listed back at (t ∷ ts)
+  more-main : (g : Stage) (singles listed : List Tag) (back at : ℕ) → Before (byPart .later) singles at → walkFault (Main g) singles listed back at (t ∷ ts) ≡ expected (Main g) singles listed back at (t ∷ ts)
   unfolding afterOther closing within expected verdictOf later Fits
   more-main g singles listed back at nx =
-      more-stage Main (byPart .later) (λ w. refl) (λ w. refl) (body ts) (later singles at) g singles listed back at (λ o e. rw (e, afterOther))
-      (λ w. law (Main w) singles (listedAfter (stageVerdict w) t listed) (listedAfter (stageVerdict w) t listed) at (at + suc (length t)) nx refl)
+      more-stage (byPart .later) Main (λ w. refl) (body ts) (later singles at) g singles listed back at (nx .number at (omega arith)) (λ o e. rw (e, afterOther))
+      (λ w. law (Main w) singles (listedAfter (stageVerdict w) t listed) (listedAfter (stageVerdict w) t listed) at (at + suc (length t)) (further (byPart .later) singles at (suc (length t)) nx) refl)
       ∙ sym (expected-more (Main g) singles listed back at)
 
-  more-part : (g : Stage) (singles listed : List Tag) (back at : ℕ) → NoX singles → isFieldKey t ≡ false → Agrees listed []
+  more-part : (g : Stage) (singles listed : List Tag) (back at : ℕ) → Before (byPart .extension) singles at → isFieldKey t ≡ false → Agrees listed []
       → walkFault (Part g) singles listed back at (t ∷ ts) ≡ expected (Part g) singles listed back at (t ∷ ts)
   unfolding afterOther closing within expected verdictOf later Fits
   more-part g singles listed back at nx f a =
       let follows = firstOf (fieldsFrom [] (at + suc (length t)) (body ts)) (later singles at) in
-      more-stage Part (byPart .extension) (λ w. refl) (λ w. refl) (ahead (body ts)) follows g singles listed back at (λ o e. rw (f, e, afterOther))
-      (λ w. law (Part w) singles (listedAfter (stageVerdict w) t listed) (listedAfter (stageVerdict w) t listed) at (at + suc (length t)) nx (refl, agrees-listed w t listed f a) ∙ first-assoc _ _ _)
+      more-stage (byPart .extension) Part (λ w. refl) (ahead (body ts)) follows g singles listed back at (nx .number at (omega arith)) (λ o e. rw (f, e, afterOther))
+      (λ w. law (Part w) singles (listedAfter (stageVerdict w) t listed) (listedAfter (stageVerdict w) t listed) at (at + suc (length t)) (further (byPart .extension) singles at (suc (length t)) nx) (refl, agrees-listed w t listed f a) ∙ first-assoc _ _ _)
       ∙ sym (expected-more (Part g) singles listed back at ∙ rw (ahead-more t (body ts) f, fields-later [] at t (body ts) f) (first-assoc _ _ _))
 
   -- the key of a field: the standard's group that it begins
-  keyed : (st : State) (singles listed seen : List Tag) (back at : ℕ) → NoX singles → Agrees listed seen → isFieldKey t ≡ true
+  keyed : (st : State) (singles listed seen : List Tag) (back at : ℕ) → Before (byPart .extension) singles at → Agrees listed seen → isFieldKey t ≡ true
       → stepped st singles listed back at t ts Key ≡ firstOf (groupsFault (fieldFault (byPart .extension)) seen at ((t ∷ ahead (body ts)) ∷ fields (body ts))) (later singles at)
   unfolding stepped verdictOf verdictFault singlesAfter listedAfter firstOf Fits expected within closing later fieldsFrom groupsFault headTag alone fieldFault unfinished repeated
   keyed st singles listed seen back at nx a f =
-      ap (firstOf (repeated at (member t listed))) (law Key singles (t ∷ listed) (t ∷ seen) at (at + suc (length t)) nx (agrees-key t listed seen a))
+      ap (firstOf (repeated at (member t listed))) (law Key singles (t ∷ listed) (t ∷ seen) at (at + suc (length t)) (further (byPart .extension) singles at (suc (length t)) nx) (agrees-key t listed seen a))
       ∙ rw (a t f) (go (ahead (body ts)) (member t seen) refl)
     where
       go : (b : List Tag) (m : Bool) → member t seen ≡ m
@@ -430,7 +472,7 @@ module _ (t : Tag) (ts : List Tag) (law : Law ts) (s : isSingleton t ≡ false) 
       go (u ∷ b) false e = rw (e, groupsFault) (rw (parts-next at t (u ∷ b), badTag-on (byPart .extension) wrongValue at t (u ∷ b) (key-no-value t f)))
 
   -- from a state in which a field may begin
-  key-here : (st : State) (singles listed seen keys : List Tag) (back at : ℕ) → NoX singles → Agrees listed keys → isFieldKey t ≡ true → afterOther st t ≡ Key
+  key-here : (st : State) (singles listed seen keys : List Tag) (back at : ℕ) → Before (byPart .extension) singles at → Agrees listed keys → isFieldKey t ≡ true → afterOther st t ≡ Key
       → ((f : Option Fault) → closing st back (t ∷ body ts) f ≡ f) → within st seen at (t ∷ body ts) ≡ fieldsFrom keys at (t ∷ body ts)
       → walkFault st singles listed back at (t ∷ ts) ≡ expected st singles seen back at (t ∷ ts)
   unfolding fieldsFrom parts
@@ -440,37 +482,37 @@ module _ (t : Tag) (ts : List Tag) (law : Law ts) (s : isSingleton t ≡ false) 
       ∙ sym (expected-more st singles seen back at ∙ c _ ∙ rw w (rw (ahead-key t (body ts) f, fields-key t (body ts) f, z)))
 
   -- in a field, its key just read or not
-  value-here : (st : State) → misplacedNumber st ≡ byPart .extension → (singles listed seen : List Tag) (back at : ℕ) → NoX singles → Agrees listed seen → isFieldKey t ≡ false
+  value-here : (st : State) (singles listed seen : List Tag) (back at : ℕ) → Before (byPart .extension) singles at → Agrees listed seen → isFieldKey t ≡ false
       → ((k : Bool) → isTwo t ≡ k → afterOther st t ≡ elim k [ true ↦ Misplaced | false ↦ Field ])
       → ((f : Option Fault) → closing st back (t ∷ body ts) f ≡ f) → within st seen at (t ∷ body ts) ≡ within Field seen at (t ∷ body ts)
       → walkFault st singles listed back at (t ∷ ts) ≡ expected st singles seen back at (t ∷ ts)
   unfolding stepped verdictOf verdictFault singlesAfter listedAfter firstOf Fits expected within closing later wrongValue
-  value-here st m singles listed seen back at nx a f n c w =
+  value-here st singles listed seen back at nx a f n c w =
       bool-cases (isTwo t)
-      (λ k. stops st singles listed seen back at (n true k) c (w ∙ rw (ahead-more t (body ts) f, badTag-here (byPart .extension) wrongValue at t (ahead (body ts)) (rw (k, f))) (rw m)))
+      (λ k. stops (byPart .extension) st singles listed seen back at nx (n true k) c (w ∙ rw (ahead-more t (body ts) f, badTag-here (byPart .extension) wrongValue at t (ahead (body ts)) (rw (k, f)))))
       (λ k.
-      onward st Field singles listed back at (n false k) ∙ law Field singles listed seen at (at + suc (length t)) nx a
+      onward st Field singles listed back at (n false k) ∙ law Field singles listed seen at (at + suc (length t)) (further (byPart .extension) singles at (suc (length t)) nx) a
       ∙ sym (expected-more st singles seen back at ∙ c _ ∙ rw w (rw (ahead-more t (body ts) f, badTag-on (byPart .extension) wrongValue at t (ahead (body ts)) (rw k), fields-later seen at t (body ts) f))))
 
-  more-key : (singles listed seen : List Tag) (back at : ℕ) → NoX singles → Agrees listed seen → walkFault Key singles listed back at (t ∷ ts) ≡ expected Key singles seen back at (t ∷ ts)
+  more-key : (singles listed seen : List Tag) (back at : ℕ) → Before (byPart .extension) singles at → Agrees listed seen → walkFault Key singles listed back at (t ∷ ts) ≡ expected Key singles seen back at (t ∷ ts)
   unfolding afterOther fieldState closing within unfinished stepped verdictOf verdictFault firstOf
   more-key singles listed seen back at nx a =
       bool-cases (isFieldKey t)
       (λ f. onward Key Unfinished singles listed back at (rw (f, afterOther, fieldState)) ∙ sym (expected-more Key singles seen back at ∙ rw (ahead-key t (body ts) f)))
-      (λ f. value-here Key refl singles listed seen back at nx a f (λ k e. rw (f, e, afterOther, fieldState)) (λ o. rw (ahead-more t (body ts) f)) refl)
+      (λ f. value-here Key singles listed seen back at nx a f (λ k e. rw (f, e, afterOther, fieldState)) (λ o. rw (ahead-more t (body ts) f)) refl)
 
-  more-field : (singles listed seen : List Tag) (back at : ℕ) → NoX singles → Agrees listed seen → walkFault Field singles listed back at (t ∷ ts) ≡ expected Field singles seen back at (t ∷ ts)
+  more-field : (singles listed seen : List Tag) (back at : ℕ) → Before (byPart .extension) singles at → Agrees listed seen → walkFault Field singles listed back at (t ∷ ts) ≡ expected Field singles seen back at (t ∷ ts)
   unfolding afterOther fieldState closing within firstOf badTag
   more-field singles listed seen back at nx a =
       bool-cases (isFieldKey t)
       (λ f. key-here Field singles listed seen seen back at nx a f (rw (f, afterOther, fieldState)) (λ o. refl) (rw (ahead-key t (body ts) f)))
-      (λ f. value-here Field refl singles listed seen back at nx a f (λ k e. rw (f, e, afterOther, fieldState)) (λ o. refl) refl)
+      (λ f. value-here Field singles listed seen back at nx a f (λ k e. rw (f, e, afterOther, fieldState)) (λ o. refl) refl)
 
   fields-fault : (at : ℕ) (b : List Tag) → fieldsFault (byPart .extension) at b ≡ firstOf (partFault (byPart .extension) (byPart .extension) languageOnly at (ahead b)) (fieldsFrom [] at b)
   unfolding fieldsFault ahead fields fieldsFrom
   fields-fault at b = refl
 
-  more-transform : (singles : List Tag) (back at : ℕ) → NoX singles → walkFault Transform singles [] back at (t ∷ ts) ≡ expected Transform singles [] back at (t ∷ ts)
+  more-transform : (singles : List Tag) (back at : ℕ) → Before (byPart .extension) singles at → walkFault Transform singles [] back at (t ∷ ts) ≡ expected Transform singles [] back at (t ∷ ts)
   unfolding afterOther closing unfinished within partFault languageOnly firstOf stepped verdictOf stageVerdict verdictFault singlesAfter listedAfter Fits expected later stageOf
   more-transform singles back at nx =
       bool-cases (isFieldKey t)
@@ -478,16 +520,16 @@ module _ (t : Tag) (ts : List Tag) (law : Law ts) (s : isSingleton t ≡ false) 
       (λ f. bool-cases (isLanguage t)
       (λ l.
       onward Transform (Part Language) singles [] back at (rw (f, l, afterOther))
-      ∙ law (Part Language) singles [] [] at (at + suc (length t)) nx (refl, λ k e. refl)
+      ∙ law (Part Language) singles [] [] at (at + suc (length t)) (further (byPart .extension) singles at (suc (length t)) nx) (refl, λ k e. refl)
       ∙ sym (expected-more Transform singles [] back at ∙ rw (fields-fault at (t ∷ body ts), ahead-more t (body ts) f, fields-later [] at t (body ts) f) (rw (l, languageOnly, partFault))))
-      (λ l. stops Transform singles [] [] back at (rw (f, l, afterOther)) (λ o. refl) (fields-fault at (t ∷ body ts) ∙ rw (ahead-more t (body ts) f) (rw (l, languageOnly, partFault)))))
+      (λ l. stops (byPart .extension) Transform singles [] [] back at nx (rw (f, l, afterOther)) (λ o. refl) (fields-fault at (t ∷ body ts) ∙ rw (ahead-more t (body ts) f) (rw (l, languageOnly, partFault)))))
 
   law-more : Law (t ∷ ts)
   unfolding Fits afterOther closing unfinished within expected restFault firstOf
   law-more First singles listed seen back at nx fit = absurd fit
   law-more (Main g) singles listed seen back at nx fit = rw fit (more-main g singles seen back at nx)
-  law-more Unicode singles listed seen back at nx fit = more-keywords Unicode refl singles listed seen back at nx (λ k e. rw (e, afterOther)) (λ o. refl) refl
-  law-more Keywords singles listed seen back at nx fit = more-keywords Keywords refl singles listed seen back at nx (λ k e. rw (e, afterOther)) (λ o. refl) refl
+  law-more Unicode singles listed seen back at nx fit = more-keywords Unicode singles listed seen back at nx (λ k e. rw (e, afterOther)) (λ o. refl) refl
+  law-more Keywords singles listed seen back at nx fit = more-keywords Keywords singles listed seen back at nx (λ k e. rw (e, afterOther)) (λ o. refl) refl
   law-more Transform singles listed seen back at nx fit = rw fit (more-transform singles back at nx)
   law-more (Part g) singles listed seen back at nx fit =
       bool-cases (isFieldKey t)
@@ -529,12 +571,12 @@ unfolding stepped verdictOf verdictFault stageVerdict singlesAfter listedAfter f
 started t ts g s e v f =
     let z : parts (t ∷ body ts) ≡ 0 + suc (length t) + parts (body ts) = omega (arith, parts-next 0 t (body ts)) in
     step First [] [] 0 0 t ts (Main g) (next-other First t s ∙ e)
-    ∙ ap (λ (w : Verdict). firstOf (verdictFault w (byPart .first) [] [] 0 0 t) (walkFault (Main g) (singlesAfter w t []) (listedAfter w t []) 0 (0 + suc (length t)) ts)) v
-    ∙ law ts (Main g) [] [] [] 0 (0 + suc (length t)) (λ u k. refl) refl
+    ∙ ap (λ (w : Verdict). firstOf (verdictFault w [] [] 0 0 t) (walkFault (Main g) (singlesAfter w t []) (listedAfter w t []) 0 (0 + suc (length t)) ts)) v
+    ∙ law ts (Main g) [] [] [] 0 (0 + suc (length t)) (before-first (length t)) refl
     ∙ sym (grammar-parts (t ∷ ts) ∙ rw (body-more t ts s, behind-more [] (parts (t ∷ body ts)) t ts s) (rw (f, partFault) (rw z)))
 
 refused : (t : Tag) (ts : List Tag) → isSingleton t ≡ false → firstState t ≡ Misplaced → start t ≡ none → walkFault First [] [] 0 0 (t ∷ ts) ≡ grammarFault byPart (t ∷ ts)
-unfolding stepped verdictOf verdictFault firstOf afterOther noLanguage partFault
+unfolding stepped verdictOf misplacedNumber verdictFault firstOf afterOther noLanguage partFault
 refused t ts s e f =
     step First [] [] 0 0 t ts Misplaced (next-other First t s ∙ e) ∙ sym (grammar-parts (t ∷ ts) ∙ rw (body-more t ts s) (rw (f, partFault)))
 
@@ -547,7 +589,7 @@ by-kind t ts s l r aNone e = refused t ts s (rw (l, r, e, firstState)) (rw (l, r
 
 -- the walk finds the standard's first fault, and none where the standard finds none
 pub walk-grammar : (t : Tag) (ts : List Tag) → walkFault First [] [] 0 0 (t ∷ ts) ≡ grammarFault byPart (t ∷ ts)
-unfolding firstState start stageOf stageVerdict stepped verdictOf verdictFault firstOf afterSingleton noLanguage
+unfolding firstState start stageOf stageVerdict stepped verdictOf misplacedNumber verdictFault firstOf afterSingleton noLanguage
 walk-grammar t ts =
     bool-cases (isSingleton t) (λ s. step First [] [] 0 0 t ts Misplaced (next-single First t s) ∙ sym (grammar-parts (t ∷ ts) ∙ rw (body-single t ts s)))
     (λ s. bool-cases (isLanguage t) (λ l. started t ts Language s (rw (l, firstState)) refl (rw (l, start)))

@@ -1,7 +1,7 @@
 -- The walk in the code's terms: the transition by what the code keeps of a subtag, the singletons as marks in a number,
 -- the variants and keys as their numbers. `proofs/Stepping.antt` shows that it is the walk over the standard's subtags.
 -- Assumes nothing.
-use mathlib.Core.Bool.{Bool, true, false, not, _&&_, _||_}
+use mathlib.Core.Bool.{Bool, true, false, cond, not, _&&_, _||_}
 use mathlib.Core.List.{List, [], _∷_, _++_}
 use Prim.Native.Nat.{ℕ, suc, _+_}
 use lib.Count.{ones}
@@ -10,7 +10,7 @@ use lib.ListN.{length}
 use Rattle.standard.specs.Tag.{Tag}
 use Rattle.standard.specs.Grammar as grammar
 use Rattle.standard.specs.Grammar.{aScript, aRegion, aVariant, aNone}
-use Rattle.standard.specs.Reading.{accept, split}
+use Rattle.standard.specs.Reading.{accept, byPart, split}
 use Rattle.subtag.specs.declared.Kind.{Kind}
 use Rattle.subtag.specs.declared.Kind.the-variants as kinds
 use Rattle.subtag.specs.declared.Subtag.{Subtag}
@@ -25,7 +25,7 @@ use Rattle.reader.specs.declared.steps.State.the-variants.{First, Main, 
 use Rattle.reader.specs.declared.marks.Marking.the-variants.{New, Repeat}
 use Rattle.reader.specs.Marks.{markedWith}
 use Rattle.reader.specs.Parts.{Outcome, parts, refused}
-use Rattle.reader.specs.Walk.{stageOf, placed, afterSingleton, pending, verdictOf, misplacedNumber, cut, counted, unread}
+use Rattle.reader.specs.Walk.{stageOf, placed, afterSingleton, pending, verdictOf, cut, counted, unread}
 
 -- the stage that a subtag of the kind leads to, and whether it may stand there
 abbrev pub kindStage : Kind → Stage
@@ -119,6 +119,10 @@ unfoldable pub among : ℕ → List ℕ → Bool
 among k [] = false
 among k (x ∷ xs) = eqb x k || among k xs
 
+-- 02, T-03: the number of a misplaced subtag, by the marks of the singletons before it and its place
+unfoldable pub misplacedFrom : ℕ → ℕ → ℕ
+misplacedFrom set at = cond (eqb at 0) (byPart .first) (cond (eqb set 0) (byPart .later) (byPart .extension))
+
 -- after the last subtag, which began at `back`
 unfoldable pub ended : State → Parts → ℕ → ℕ → Outcome
 ended st p set back = elim (pending st) [ true ↦ refused 7 back | false ↦ parts (counted (ones set) p) ]
@@ -130,7 +134,7 @@ steps st p set keys back at (t ∷ ts) =
     let n = nextFrom st (subtagOf t) in
     let q = cut n (at + length t) p in
     elim (verdictOf n) [
-      | verdicts.Misplaced ↦ refused (misplacedNumber st) at
+      | verdicts.Misplaced ↦ refused (misplacedFrom set at) at
       | verdicts.Unfinished ↦ refused 7 back
       | verdicts.Singleton ↦ elim (markedWith set (firstByte t)) [ New m ↦ steps n q m [] at (at + suc (length t)) ts | Repeat ↦ refused 6 at ]
       | verdicts.Listed ↦ elim (among (keyOf t) keys) [ true ↦ refused 6 at | false ↦ steps n q set (keys ++ (keyOf t ∷ [])) at (at + suc (length t)) ts ]

@@ -3,7 +3,7 @@
 use mathlib.Core.Bool.{Bool, true, false}
 use mathlib.Core.List.{List, [], _∷_}
 use mathlib.Core.Option.{Option, none, some}
-use Prim.Native.Nat.{ℕ, suc, _+_}
+use Prim.Native.Nat.{ℕ, zero, suc, _+_}
 use lib.ListN.{length}
 use Rattle.standard.specs.Tag.{Tag, same}
 use Rattle.standard.specs.Grammar.{isLanguage, Kind, aScript, aRegion, aVariant, aNone, kindOf, isSingleton, isTwo, isFieldKey, uTag, tTag}
@@ -140,36 +140,25 @@ verdictOf Privates = Plain
 verdictOf Misplaced = verdicts.Misplaced
 verdictOf Unfinished = verdicts.Unfinished
 
--- 02, T-03: the number of a subtag that can't stand where the walk stands
-abbrev pub misplacedNumber : State → ℕ
-misplacedNumber First = byPart .first
-misplacedNumber (Main s) = byPart .later
-misplacedNumber Unicode = byPart .extension
-misplacedNumber Keywords = byPart .extension
-misplacedNumber Transform = byPart .extension
-misplacedNumber (Part s) = byPart .extension
-misplacedNumber Key = byPart .extension
-misplacedNumber Field = byPart .extension
-misplacedNumber Other = byPart .extension
-misplacedNumber Others = byPart .extension
-misplacedNumber Private = byPart .extension
-misplacedNumber Privates = byPart .extension
-misplacedNumber Misplaced = byPart .extension
-misplacedNumber Unfinished = byPart .extension
+-- 02, T-03: 5 only for the first subtag, 15 for a later one before any singleton, 16 for one after a singleton; by the
+-- singletons before it and its place
+unfoldable pub misplacedNumber : List Tag → ℕ → ℕ
+misplacedNumber singles zero = byPart .first
+misplacedNumber [] (suc at) = byPart .later
+misplacedNumber (s ∷ singles) (suc at) = byPart .extension
 
 -- number 6
 unfoldable pub repeated : ℕ → Bool → Option Fault
 repeated at true = fault 6 at
 repeated at false = none
 
--- the refusal at a subtag: itself at `at`, the one before it at `back`; after these singletons, and these variants or keys;
--- a misplaced one has the number m
-unfoldable pub verdictFault : Verdict → ℕ → List Tag → List Tag → ℕ → ℕ → Tag → Option Fault
-verdictFault verdicts.Misplaced m singles listed back at t = fault m at
-verdictFault verdicts.Unfinished m singles listed back at t = fault 7 back
-verdictFault Singleton m singles listed back at t = repeated at (member t singles)
-verdictFault Listed m singles listed back at t = repeated at (member t listed)
-verdictFault Plain m singles listed back at t = none
+-- the refusal at a subtag: itself at `at`, the one before it at `back`; after these singletons, and these variants or keys
+unfoldable pub verdictFault : Verdict → List Tag → List Tag → ℕ → ℕ → Tag → Option Fault
+verdictFault verdicts.Misplaced singles listed back at t = fault (misplacedNumber singles at) at
+verdictFault verdicts.Unfinished singles listed back at t = fault 7 back
+verdictFault Singleton singles listed back at t = repeated at (member t singles)
+verdictFault Listed singles listed back at t = repeated at (member t listed)
+verdictFault Plain singles listed back at t = none
 
 -- the singletons after the subtag
 unfoldable pub singlesAfter : Verdict → Tag → List Tag → List Tag
@@ -193,7 +182,7 @@ walkFault st singles listed back at [] = elim (pending st) [ true ↦ fault 7 ba
 walkFault st singles listed back at (t ∷ ts) =
     let next = nextState st t in
     let v = verdictOf next in
-    elim (verdictFault v (misplacedNumber st) singles listed back at t) [
+    elim (verdictFault v singles listed back at t) [
       | some f ↦ some f
       | none ↦ walkFault next (singlesAfter v t singles) (listedAfter v t listed) at (at + suc (length t)) ts
     ]

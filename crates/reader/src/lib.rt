@@ -15,8 +15,8 @@ ghost use Prim.Native.Nat.{_+_, _≤_, _<_};
 ghost use lib.ListN.{length};
 ghost use Rattle.standard.specs.Reading.{split, clean, unclean, badTag, wrongSize};
 ghost use Rattle.reader.specs.Parts.{foundAs, faultIs, outcomeOf, outcome};
-ghost use Rattle.reader.specs.Walk.{cut as cutAt, firstCut, cutStage, extended as extendedTo, misplacedNumber, unread as nothingRead};
-ghost use Rattle.reader.specs.Steps.{ended, stepsOf};
+ghost use Rattle.reader.specs.Walk.{cut as cutAt, firstCut, cutStage, extended as extendedTo, unread as nothingRead};
+ghost use Rattle.reader.specs.Steps.{misplacedFrom, ended, stepsOf};
 
 // What the first subtag is.
 pub enum Start {
@@ -76,13 +76,13 @@ pub fn fault_of(r: Refusal) -> Fault
     match r {
         Refusal::Empty => numbered(1, 0),
         Refusal::TooLong => numbered(2, 0),
-        Refusal::BadByte(at) => numbered(3, at),
-        Refusal::BadSize(at) => numbered(4, at),
-        Refusal::MisplacedFirst(at) => numbered(5, at),
-        Refusal::MisplacedLater(at) => numbered(15, at),
-        Refusal::MisplacedExtension(at) => numbered(16, at),
-        Refusal::Repeated(at) => numbered(6, at),
-        Refusal::Unfinished(at) => numbered(7, at),
+        Refusal::BadByte(place) => numbered(3, place),
+        Refusal::BadSize(place) => numbered(4, place),
+        Refusal::MisplacedFirst(place) => numbered(5, place),
+        Refusal::MisplacedLater(place) => numbered(15, place),
+        Refusal::MisplacedExtension(place) => numbered(16, place),
+        Refusal::Repeated(place) => numbered(6, place),
+        Refusal::Unfinished(place) => numbered(7, place),
     }
 }
 
@@ -178,26 +178,18 @@ fn cut(st: State, end: usize, p: Parts) -> Parts
     }
 }
 
-// Why a subtag can't stand where the walk stands: as the first, as a later one before any singleton, after a singleton.
-fn misplaced(st: State, at: usize) -> Refusal
-    ensures { λ r. ⌜ (faultIs r .number ≡ misplacedNumber st) × (faultIs r .place ≡ at) ⌝ }
+// Why the subtag at the place can't stand there: as the first, as a later one before any singleton, or after one.
+fn misplaced(at: usize, set: u64) -> Refusal
+    ensures { λ r. ⌜ (faultIs r .number ≡ misplacedFrom set at) × (faultIs r .place ≡ at) ⌝ }
 {
-    match st {
-        State::First => Refusal::MisplacedFirst(at),
-        State::Main(_) => Refusal::MisplacedLater(at),
-        State::Unicode => Refusal::MisplacedExtension(at),
-        State::Keywords => Refusal::MisplacedExtension(at),
-        State::Transform => Refusal::MisplacedExtension(at),
-        State::Part(_) => Refusal::MisplacedExtension(at),
-        State::Key => Refusal::MisplacedExtension(at),
-        State::Field => Refusal::MisplacedExtension(at),
-        State::Other => Refusal::MisplacedExtension(at),
-        State::Others => Refusal::MisplacedExtension(at),
-        State::Private => Refusal::MisplacedExtension(at),
-        State::Privates => Refusal::MisplacedExtension(at),
-        State::Misplaced => Refusal::MisplacedExtension(at),
-        State::Unfinished => Refusal::MisplacedExtension(at),
+    if at == 0 {
+        return Refusal::MisplacedFirst(at);
     }
+    // no singleton has its mark
+    if set == 0 {
+        return Refusal::MisplacedLater(at);
+    }
+    Refusal::MisplacedExtension(at)
 }
 
 // After the last subtag, which began at `at`: one extension for each mark.
@@ -237,7 +229,7 @@ fn walk(id: &[u8]) -> Reading
         let verdict = steps::verdict_of(next);
         match verdict {
             Verdict::Misplaced => {
-                return Reading::Refused(misplaced(st, at));
+                return Reading::Refused(misplaced(at, set));
             }
             Verdict::Unfinished => {
                 return Reading::Refused(Refusal::Unfinished(back));

@@ -42,8 +42,8 @@ cases =
     ∷ case 10 "64\ten\tUS" "10\t64\t3\t5\ten\\x09US\ta byte that is no letter, digit, - or _\n"
     ∷ case 123 "2\ten--US" "123\t2\t4\t5\ten--US\ta subtag of 0 or over 8 bytes\n"
     ∷ case 124 "3\tx-abc" "124\t3\t5\t2\tx-abc\ta first subtag that is no language, script or root\n"
-    ∷ case 125 "3\ten-t-k0-ab" "125\t3\t16\t10\ten-t-k0-ab\ta subtag that can't stand there in an extension\n"
-    ∷ case 1000000 "12\ten-US-Latn" "1000000\t12\t15\t9\ten-US-Latn\ta subtag that can't stand there in the language part\n"
+    ∷ case 125 "3\ten-t-k0-ab" "125\t3\t16\t10\ten-t-k0-ab\ta subtag that can't stand there, in an extension\n"
+    ∷ case 1000000 "12\ten-US-Latn" "1000000\t12\t15\t9\ten-US-Latn\ta subtag that can't stand there, before any extension\n"
     ∷ []
 
 -- the rows as the definitions have them

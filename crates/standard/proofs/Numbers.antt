@@ -46,16 +46,16 @@ small-number : (n : ℕ) → 1 ≤ n → n ≤ 7 → ReadingNumber n
 unfolding ReadingNumber
 small-number n h k = (h, inl k)
 
-five : ReadingNumber 5
-five = small-number 5 (omega arith) (omega arith)
+first-number : ReadingNumber (byPart .first)
+first-number = small-number _ (omega arith) (omega arith)
 
-fifteen : ReadingNumber 15
+later-number : ReadingNumber (byPart .later)
 unfolding ReadingNumber
-fifteen = (omega arith, inr (omega arith, omega arith))
+later-number = (omega arith, inr (omega arith, omega arith))
 
-sixteen : ReadingNumber 16
+extension-number : ReadingNumber (byPart .extension)
 unfolding ReadingNumber
-sixteen = (omega arith, inr (omega arith, omega arith))
+extension-number = (omega arith, inr (omega arith, omega arith))
 
 first-within : (a b : Option Fault) → ReadingFault a → ReadingFault b → ReadingFault (firstOf a b)
 unfolding firstOf ReadingFault ReadingNumber
@@ -143,9 +143,9 @@ grammar-within : (ts : List Tag) → ReadingFault (grammarFault byPart ts)
 unfolding grammarFault
 grammar-within ts =
     let g = grouped isSingleton (upTo isX ts) in
-    first-within _ _ (language-within 5 five (g .before))
-    (first-within _ _ (part-within 5 15 five fifteen start 0 (g .before))
-    (first-within _ _ (groups-within (extensionFault 16) (extension-within 16 sixteen) [] (parts (g .before)) (g .groups)) (private-within (parts (upTo isX ts)) (from isX ts))))
+    first-within _ _ (language-within (byPart .first) first-number (g .before))
+    (first-within _ _ (part-within (byPart .first) (byPart .later) first-number later-number start 0 (g .before))
+    (first-within _ _ (groups-within (extensionFault (byPart .extension)) (extension-within (byPart .extension) extension-number) [] (parts (g .before)) (g .groups)) (private-within (parts (upTo isX ts)) (from isX ts))))
 
 empty-within : (x : List ℕ) → ReadingFault (noBytes x)
 unfolding noBytes ReadingFault ReadingNumber

@@ -1,5 +1,5 @@
--- 02, T-03 beside document 01, where 5 stood for every subtag that can't stand there: how 5 became 5, 15 and 16.
--- proofs/Numbering.antt proves for all bytes that nothing else moved. Assumes nothing.
+-- 02, T-03 beside document 01, where 5 stands for every subtag that can't stand there: `Reading` over `allFive` has its
+-- numbers. proofs/Numbering.antt proves for all bytes that over `byPart` 5 alone differs, and how. Assumes nothing.
 use mathlib.Core.Bool.{true, false}
 use mathlib.Core.List.{List}
 use mathlib.Core.Option.{Option, none, some}
@@ -8,10 +8,10 @@ use lib.Dec.{ltb, eqb}
 use Rattle.standard.specs.Tag.{Tag}
 use Rattle.standard.specs.Grammar.{isSingleton}
 use Rattle.standard.specs.Identifier.{parts}
-use Rattle.standard.specs.Reading.{Fault, Misplaced, upTo}
+use Rattle.standard.specs.Reading.{Fault, MisplacedNumbers, upTo}
 
--- 01, Numbers, 5: a subtag that can't stand there, wherever it is
-abbrev pub allFive : Misplaced
+-- document 01's own number of a subtag that can't stand there, wherever it is
+abbrev pub allFive : MisplacedNumbers
 allFive = record { first = 5; later = 5; extension = 5 }
 
 -- the place of the first singleton; behind the end where there is none

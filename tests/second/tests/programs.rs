@@ -50,7 +50,7 @@ fn lines_of_inspect() {
         "{VIEW}iw_latn_il\t0\t0\tiw\tLatn\tIL\t0\t0\tdone\n\
         \t1\t0\t{none}\tno bytes\n\
         -\t3\t2\t{none}\ta byte that is no letter, digit, - or _\n\
-        en-US-Latn\t15\t6\t{none}\ta subtag that can't stand there in the language part\n\
+        en-US-Latn\t15\t6\t{none}\ta subtag that can't stand there, before any extension\n\
         en-1994-x-a\t0\t0\ten\t-\t-\t1\t1\tdone\n"
     );
     assert_eq!(run(b"iw_latn_il\n\nen US\nen-US-Latn\nen-1994-x-a"), expected);
@@ -60,7 +60,7 @@ fn lines_of_inspect() {
         en-1994-1994\t6\t8\t{none}\ta repeated singleton, variant or t key\n\
         en-u\t7\t3\t{none}\ta singleton or t key with nothing behind it\n\
         x-abc\t5\t0\t{none}\ta first subtag that is no language, script or root\n\
-        en-t-k0-ab\t16\t8\t{none}\ta subtag that can't stand there in an extension\n\
+        en-t-k0-ab\t16\t8\t{none}\ta subtag that can't stand there, in an extension\n\
         fr\t0\t0\tfr\t-\t-\t0\t0\tdone\n"
     );
     let more = "en-\nen-1994-1994\nen-u\nx-abc\nen-t-k0-ab\nfr\n";
@@ -80,7 +80,7 @@ fn lines_of_inspect_over_tables() {
         fr-Latn-FR\t0\t0\tfr\tLatn\tFR\t0\t0\tdone\n\
         {long}\t0\t0\tund\tLatn\t-\t0\t1\tas a key 9: its canonical or maximised form is over 255 bytes\n\
         fr-u\t7\t3\t-\t-\t-\t0\t0\ta singleton or t key with nothing behind it\n\
-        fr-u-12\t16\t5\t-\t-\t-\t0\t0\ta subtag that can't stand there in an extension\n"
+        fr-u-12\t16\t5\t-\t-\t-\t0\t0\ta subtag that can't stand there, in an extension\n"
     );
     let input = format!("iw_IL\nfr\nfr-Latn-FR\n{long}\nfr-u\nfr-u-12");
     assert_eq!(run(input.as_bytes(), ALIASES, LIKELY), expected);

@@ -113,13 +113,13 @@ fn numbers_of_identifiers() {
         ("64\t12", "64\t5\t3\t12\ta first subtag that is no language, script or root"),
         (
             "1\ten-US-Latn",
-            "1\t15\t8\ten-US-Latn\ta subtag that can't stand there in the language part",
+            "1\t15\t8\ten-US-Latn\ta subtag that can't stand there, before any extension",
         ),
-        ("1\troot-US", "1\t15\t7\troot-US\ta subtag that can't stand there in the language part"),
-        ("1\ten-u-12", "1\t16\t7\ten-u-12\ta subtag that can't stand there in an extension"),
+        ("1\troot-US", "1\t15\t7\troot-US\ta subtag that can't stand there, before any extension"),
+        ("1\ten-u-12", "1\t16\t7\ten-u-12\ta subtag that can't stand there, in an extension"),
         (
             "64\ten-t-en-us-latn",
-            "64\t16\t14\ten-t-en-us-latn\ta subtag that can't stand there in an extension",
+            "64\t16\t14\ten-t-en-us-latn\ta subtag that can't stand there, in an extension",
         ),
         ("10\ten-1994-1994", "10\t6\t11\ten-1994-1994\ta repeated singleton, variant or t key"),
         ("1\ten-u", "1\t7\t5\ten-u\ta singleton or t key with nothing behind it"),

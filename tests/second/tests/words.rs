@@ -20,8 +20,8 @@ fn words_of_the_numbers() {
         "a row of wrong shape",
         "a row not above the one before",
         "a row that clashes with another",
-        "a subtag that can't stand there in the language part",
-        "a subtag that can't stand there in an extension",
+        "a subtag that can't stand there, before any extension",
+        "a subtag that can't stand there, in an extension",
         "over 512 keys",
         "over 1,000,000 lines",
     ];
