@@ -1,6 +1,6 @@
 # The library for C: static, shared, header and pkg-config file. It is proved first, with everything that it rests on,
 # which takes some minutes once; this needs the Rattle kit (rt).
-#   make                        target/c/libaltazhbey.a, libaltazhbey.so.0 and altazhbey.pc
+#   make                        target/c/libaltazhbey.a, libaltazhbey.so.MAJOR.MINOR and altazhbey.pc
 #   make install PREFIX=/usr    installs them there (default: /usr/local); DESTDIR=/stage puts the files below /stage
 #   make uninstall              removes what install put, with the same PREFIX and DESTDIR
 #   make clean                  removes what make built; what is proved stays proved
@@ -14,7 +14,8 @@ VERSION := $(shell sed -n 's/^.define ALTAZHBEY_VERSION "\(.*\)"$$/\1/p' $(HEADE
 ifeq ($(VERSION),)
 $(error no version in $(HEADER))
 endif
-SHARED := libaltazhbey.so.$(firstword $(subst ., ,$(VERSION)))
+# a minor version may change answers, so that it is part of the name a host is bound to
+SHARED := libaltazhbey.so.$(basename $(VERSION))
 OUT := target/c
 
 all: $(OUT)/altazhbey.pc $(OUT)/libaltazhbey.a $(OUT)/$(SHARED)

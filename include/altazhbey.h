@@ -47,10 +47,10 @@ enum altazhbey_numbers {
     ALTAZHBEY_ROW_SHAPE = 12,           /* a row of wrong shape; table, place: the row's first byte */
     ALTAZHBEY_ROW_ORDER = 13,           /* a row not above the one before; table, place: the row's first byte */
     ALTAZHBEY_ROW_CLASH = 14,           /* a row that clashes with another; table, place: the row's first byte */
-    ALTAZHBEY_MISPLACED_LATER = 15,     /* a subtag that can't stand there, before any extension; behind the first one
-                                           and before any singleton; place: its first byte */
-    ALTAZHBEY_MISPLACED_EXTENSION = 16, /* a subtag that can't stand there, in an extension; behind a singleton;
-                                           place: its first byte */
+    ALTAZHBEY_MISPLACED_LATER = 15,     /* a subtag that can't stand there, before any extension; it is not the first
+                                           one; place: its first byte */
+    ALTAZHBEY_MISPLACED_EXTENSION = 16, /* a subtag that can't stand there, in an extension; a singleton stands before
+                                           it; place: its first byte */
     ALTAZHBEY_OVER_KEYS = 17,           /* over 512 keys; given by the program bill alone */
     ALTAZHBEY_OVER_LINES = 18           /* over 1,000,000 lines; given by the program bill alone */
 };

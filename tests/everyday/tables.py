@@ -23,8 +23,8 @@ GOOD = {"aliases.tsv": ALIASES, "likely.tsv": LIKELY, "parents.tsv": PARENTS}
 
 # What the programs print of their two lines without aliases, and without likely rows.
 WITHOUT = {
-    ("keys", "aliases"): b"iw_IL\t8\t-\nen-US-Latn\t5\t-\n",
-    ("keys", "likely"): b"iw_IL\t8\t-\nen-US-Latn\t5\t-\n",
+    ("keys", "aliases"): b"iw_IL\t8\t-\nen-US-Latn\t15\t-\n",
+    ("keys", "likely"): b"iw_IL\t8\t-\nen-US-Latn\t15\t-\n",
     ("bill", "aliases"): b"-\t0\t2\n",
     ("bill", "likely"): b"-\t0\t2\n",
 }

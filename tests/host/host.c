@@ -220,10 +220,12 @@ static void null_pointers(void) {
 static void meanings(void) {
     static const char *const WORDS[] = {
         "done", "no bytes", "over 255 bytes", "a byte that is no letter, digit, - or _", "a subtag of 0 or over 8 bytes",
-        "a first subtag that is no language, script or root", "a repeated singleton, variant or t key", "a singleton or t key with nothing behind it",
+        "a first subtag that is no language, script or root", "a repeated singleton, variant or t key",
+        "a singleton or t key with nothing behind it",
         "no row of the likely table fits it", "its canonical or maximised form is over 255 bytes", "the output is too short",
         "a table over 32,768 bytes", "a row of wrong shape", "a row not above the one before", "a row that clashes with another",
-        "a subtag that can't stand there, before any extension", "a subtag that can't stand there, in an extension", "over 512 keys", "over 1,000,000 lines", "no such number"};
+        "a subtag that can't stand there, before any extension", "a subtag that can't stand there, in an extension",
+        "over 512 keys", "over 1,000,000 lines", "no such number"};
     for (unsigned n = 0; n < sizeof WORDS / sizeof *WORDS; n++) expect_true(WORDS[n], !strcmp(altazhbey_meaning(n), WORDS[n]));
     for (unsigned n = 20; n < 256; n++) expect_true("no such number", !strcmp(altazhbey_meaning(n), "no such number"));
     expect_true("no such number", !strcmp(altazhbey_meaning(~0u), "no such number"));
