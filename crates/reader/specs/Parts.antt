@@ -1,4 +1,5 @@
--- What `read_parts` gives back, and what it is to give: document 01's number and place for each of the answer's cases.
+-- What `read_parts` gives back, and what it is to give: for each of the answer's cases the number and place that documents 01
+-- and 02 give it.
 -- Assumes nothing.
 use mathlib.Core.Bool.{true, false}
 use mathlib.Core.List.{List}

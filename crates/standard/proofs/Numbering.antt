@@ -12,7 +12,7 @@ use lib.ListN.{length}
 use borrow.Author.Tests.{lt-ltb, le-ltb}
 use Rattle.standard.specs.Tag.{Tag, same, headTag}
 use Rattle.standard.specs.Grammar.{grouped, withTag, isSingleton, isFieldKey, uTag, tTag, xTag, kindOf, isVariant, oneSize, sizeOf}
-use Rattle.standard.specs.Identifier.{Identifier, parts}
+use Rattle.standard.specs.Identifier.{parts}
 use Rattle.standard.specs.Reading.{Fault, firstOf, noBytes, tooLong, clean, unclean, badTag, wrongSize, member, Stage, accept, restFault, start, languageOnly, byPart, partFault, alone, groupsFault, wrongKeyword, wrongValue, fieldFault, fieldsFault, extensionFault, privateFault, isX, upTo, from, noLanguage, grammarFault, faultBy, faultOf, split}
 use Rattle.standard.specs.Numbering.{allFive, firstSingleton, numberAt, renumber, renumbered}
 use Rattle.standard.proofs.Tags.{same-eq}
@@ -163,7 +163,7 @@ x-single : (t : Tag) → isX t ≡ true → isSingleton t ≡ true
 unfolding isX isSingleton oneSize sizeOf
 x-single t e = rw (same-eq t xTag e)
 
-pub front : (ts : List Tag) → (grouped isSingleton (upTo isX ts)) .before ≡ upTo isSingleton ts
+front : (ts : List Tag) → (grouped isSingleton (upTo isX ts)) .before ≡ upTo isSingleton ts
 unfolding grouped withTag upTo
 front [] = refl
 front (t ∷ ts) = bool-cases (isX t) (λ e. rw (e, upTo) (rw (x-single t e, upTo))) (λ e. rw (e, upTo) (go (isSingleton t) refl (front ts)))
