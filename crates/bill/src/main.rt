@@ -20,14 +20,14 @@ use program_io::{Run, Status, finish, input, load_table, output, status_of};
 use table::hints::{fill_hints, many};
 
 // The counts of the bill, and the input as it was read.
-#[derive(Drop)]
+#[derive(Clone, Copy)]
 struct Billed {
     counts: Counts,
     input: Input,
 }
 
 // The length of the bill's text, the number of its refusal or 0, and the input as it was read.
-#[derive(Drop)]
+#[derive(Clone, Copy)]
 struct Made {
     len: usize,
     number: u8,

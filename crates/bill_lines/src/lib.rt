@@ -21,7 +21,7 @@ use table_check::{Verdict, check_likely};
 
 // A bill's refusal (11 to 14 for the tables, 17 or 18), with the place and the table of a table's; the number of its keys,
 // of the lines read and of those refused.
-#[derive(Drop)]
+#[derive(Clone, Copy)]
 pub struct Counts {
     pub number: u8,
     pub place: usize,

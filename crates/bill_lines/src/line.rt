@@ -14,7 +14,7 @@ use crate::shape::shape_of;
 use crate::{Counts, only};
 
 // A member and the length of the key, or member 0 for a refused line.
-#[derive(Drop)]
+#[derive(Clone, Copy)]
 pub struct Used {
     pub member: u8,
     pub len: usize,

@@ -6,7 +6,7 @@ ghost use Rattle.bill_lines.specs.Shapes.{or_zero, Shaped};
 use subtag::is_digit;
 
 // The member, 0 where the line has no number, 1 to 64, or no tab; and where its identifier starts.
-#[derive(Drop)]
+#[derive(Clone, Copy)]
 pub struct Shape {
     pub member: u8,
     pub start: usize,

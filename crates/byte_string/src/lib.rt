@@ -1,4 +1,6 @@
 // Inner. Byte strings: their order, the first place of a byte, and bytes written at a place.
+#![tactic(auto)]
+
 ghost use Rattle.std.specs.Prelude.{◌≡◌, ◌+◌, ◌≤◌, ◌<◌, length};
 ghost use Rattle.standard.specs.Tag.{order, same as sameTag};
 ghost use Rattle.byte_string.specs.Strings.{order_of, end_of, Writes};
@@ -29,7 +31,7 @@ pub fn same(a: &[u8], b: &[u8]) -> bool
 }
 
 // How two byte strings compare.
-#[derive(Drop)]
+#[derive(Clone, Copy)]
 pub enum Order {
     Less,
     Equal,

@@ -19,7 +19,7 @@ use subtag::put_normalised;
 // Where the parts of the canonical form end in its bytes. Language, script and region stand at the front, so that each
 // form that names some of them is a prefix; then variants, extensions and private use; an absent part ends where the one
 // before it does. count is the number of variants.
-#[derive(Drop)]
+#[derive(Clone, Copy)]
 pub struct Form {
     pub language: usize,
     pub script: usize,
@@ -31,14 +31,14 @@ pub struct Form {
 }
 
 // Why there is no form: reading refuses, or the form is over 255 bytes.
-#[derive(Drop)]
+#[derive(Clone, Copy)]
 pub enum NoForm {
     Unread(Refusal),
     Overlong,
 }
 
 // The form, or why there is none.
-#[derive(Drop)]
+#[derive(Clone, Copy)]
 pub enum Canon {
     Formed(Form),
     Refused(NoForm),

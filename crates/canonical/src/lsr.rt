@@ -17,7 +17,7 @@ use row_shapes::lsr::script_end;
 use subtag::put_normalised;
 
 // Where language, script and region end; an absent one ends where the one before it does.
-#[derive(Drop)]
+#[derive(Clone, Copy)]
 pub struct Ends {
     pub language: usize,
     pub script: usize,

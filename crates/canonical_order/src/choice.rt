@@ -6,7 +6,7 @@ ghost use Rattle.canonical_order.specs.Section.{better_of, no_head, pick_from};
 use subtag::{Subtag, scan};
 
 // The head of a group: the place of its separator, the place behind it, and its number.
-#[derive(Drop)]
+#[derive(Clone, Copy)]
 pub struct Head {
     pub at: usize,
     pub next: usize,

@@ -28,7 +28,7 @@ pub(crate) fn group_end(s: &[u8], width: usize, from: usize) -> usize
 }
 
 // What is looked for: the key of a field, or a variant.
-#[derive(Drop)]
+#[derive(Clone, Copy)]
 pub enum What {
     Field,
     Variant,

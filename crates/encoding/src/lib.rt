@@ -6,7 +6,7 @@ ghost use Rattle.encoding.specs.Encodings.{marked, wide_pair, wide, front_of, en
 use byte_string::end_of;
 
 // What stands in front: nothing but lines; a byte order mark; or what begins UTF-16.
-#[derive(Drop)]
+#[derive(Clone, Copy)]
 pub enum Front {
     Plain,
     ByteOrderMark,
@@ -14,7 +14,7 @@ pub enum Front {
 }
 
 // What ends the first line: LF, CR LF, or with a CR in it perhaps CR alone.
-#[derive(Drop)]
+#[derive(Clone, Copy)]
 pub enum Ending {
     Lf,
     CrLf,

@@ -173,7 +173,7 @@ fn put_keyed(
 }
 
 // How many bytes of a piece were answered, and the length of their rows.
-#[derive(Drop)]
+#[derive(Clone, Copy)]
 pub struct Written {
     pub used: usize,
     pub len: usize,

@@ -15,7 +15,7 @@ use table_check::{Verdict, check_likely};
 use tsv::{put, put_asked, put_number};
 
 // Number, place and table of the tables' refusal; how many bytes of the piece were answered, and the length of their rows.
-#[derive(Drop)]
+#[derive(Clone, Copy)]
 pub struct Keyed {
     pub number: u8,
     pub place: usize,

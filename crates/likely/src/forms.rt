@@ -10,7 +10,7 @@ use crate::parts::{first_of, known, language_of};
 use byte_string::put;
 
 // What is made: a form of this length, or a refusal.
-#[derive(Drop)]
+#[derive(Clone, Copy)]
 pub enum Outcome {
     Done(usize),
     NoRow,

@@ -7,7 +7,7 @@ use crate::parts::{dash_from, first_is, is_complete};
 use crate::rows::find_row;
 
 // Where the language and the script of a value end.
-#[derive(Drop)]
+#[derive(Clone, Copy)]
 pub struct Cuts {
     pub language: usize,
     pub script: usize,
@@ -80,7 +80,7 @@ pub(crate) fn fits(
 }
 
 // What the minimised form keeps of the maximised one's script and region.
-#[derive(Drop)]
+#[derive(Clone, Copy)]
 pub enum Kept {
     Neither,
     Region,

@@ -9,7 +9,7 @@ ghost use Rattle.lines.specs.Reader.{Placed, Carries, HandsOver};
 ghost use Rattle.lines.specs.Pieces.{Next};
 
 // Where the whole lines of a piece end, and where the unfinished one behind them does.
-#[derive(Drop)]
+#[derive(Clone, Copy)]
 pub struct Taken {
     pub whole: usize,
     pub end: usize,

@@ -16,7 +16,7 @@ use canonical::form::{Canon, Form, NoForm, canonical_form, refusal_in};
 use parents::lines::{Listed, list};
 
 // The refusal of canonicalising, which stands, or the listing.
-#[derive(Drop)]
+#[derive(Clone, Copy)]
 pub enum Answered {
     Refused(NoForm),
     Lines(Listed),

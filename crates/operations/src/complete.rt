@@ -16,7 +16,7 @@ use canonical::form::{Canon, Form, NoForm, canonical_form, refusal_in};
 use likely::forms::{Outcome, form_by_parts};
 
 // The refusal of canonicalising, which stands, or what was made.
-#[derive(Drop)]
+#[derive(Clone, Copy)]
 pub enum Answered {
     Refused(NoForm),
     Made(Outcome),

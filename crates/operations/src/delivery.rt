@@ -7,7 +7,7 @@ use byte_string::put;
 use canonical::form::{NoForm, fault_of};
 
 // Number, place and table as document 01 gives them, the length of the result and the steps of a chain.
-#[derive(Drop)]
+#[derive(Clone, Copy)]
 pub struct Answer {
     pub number: u8,
     pub place: usize,

@@ -11,7 +11,7 @@ ghost use Rattle.parents.specs.Listed.{Bounded, Lists, listed_of, out_after, add
 use byte_string::put;
 
 // Whether a listing fits, where it ends, and its steps.
-#[derive(Drop)]
+#[derive(Clone, Copy)]
 pub struct Listed {
     pub fits: bool,
     pub end: usize,

@@ -7,7 +7,7 @@ ghost use Rattle.parents.specs.Walk.{cut, ValueOk, OwnRow, ShorterAt, ParentAt, 
 use table::hints::{find_hinted, hint, opens, slot_from};
 
 // A parent: `und`, or the text of the table from at to end.
-#[derive(Drop)]
+#[derive(Clone, Copy)]
 pub struct Parent {
     pub root: bool,
     pub at: usize,

@@ -11,7 +11,7 @@ use libc::STDIN_FILENO;
 use lines::Taken;
 
 // What reading once more gave: a block, the end of the input, or a failure.
-#[derive(Drop)]
+#[derive(Clone, Copy)]
 pub enum Last {
     Block,
     End,
@@ -20,7 +20,7 @@ pub enum Last {
 
 // Where the lines of the piece end; how many bytes of the block were read last, and how many in all; and what the last
 // reading gave. Only `begin` and `next` make one, so a program that has one which ended has read to the end.
-#[derive(Drop)]
+#[derive(Clone, Copy)]
 pub struct Input {
     taken: Taken,
     got: usize,
@@ -88,7 +88,7 @@ pub fn has_failed(i: Input) -> bool
 }
 
 // How many bytes of the block were read, and what reading gave.
-#[derive(Drop)]
+#[derive(Clone, Copy)]
 struct Got {
     len: usize,
     last: Last,

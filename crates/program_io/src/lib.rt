@@ -43,7 +43,7 @@ fn say_failed(program: &[u8], what: &[u8], so: &[u8]) {
 
 // How many bytes of a file were read: all, or as many as there is room for; that it can't be opened; or that it can't be
 // read.
-#[derive(Drop)]
+#[derive(Clone, Copy)]
 pub enum Loaded {
     Bytes(usize),
     Missing,
@@ -104,7 +104,7 @@ pub fn exists(path: &[u8]) -> bool {
 }
 
 // The length of a table, and whether it was read.
-#[derive(Drop)]
+#[derive(Clone, Copy)]
 pub struct Table {
     pub len: usize,
     pub read: bool,
@@ -153,7 +153,7 @@ pub fn print_table(o: Output, number: u8, place: usize, table: u8) -> Output
 }
 
 // A run: 0, or the number of refused tables or of a refused bill; the input as it was read, and the output as it was printed.
-#[derive(Drop)]
+#[derive(Clone, Copy)]
 pub struct Run {
     pub number: u8,
     pub input: Input,
@@ -161,7 +161,7 @@ pub struct Run {
 }
 
 // What a run came to: done; input or output failed; tables or the bill refused.
-#[derive(Drop)]
+#[derive(Clone, Copy)]
 pub enum Status {
     Done,
     Failed,

@@ -8,7 +8,7 @@ use std::num::wrapping_add_usize;
 
 // How many bytes were printed, modulo 2^64, and whether a write failed. Only `begin` and `print` make one, so a program that
 // has one which did not fail has printed them all.
-#[derive(Drop)]
+#[derive(Clone, Copy)]
 pub struct Output {
     bytes: usize,
     failed: bool,

@@ -7,7 +7,7 @@ ghost use Rattle.program_io.specs.Calls.{told_by, Fits};
 use libc::EINTR;
 
 // What a call that moves bytes says: how many it moved, that there are none (the end of a file), or that it failed.
-#[derive(Drop)]
+#[derive(Clone, Copy)]
 pub enum Moved {
     Bytes(usize),
     None,

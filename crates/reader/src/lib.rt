@@ -15,7 +15,7 @@ use marks::Marking;
 use steps::{Stage, State, Verdict};
 
 // What the first subtag is.
-#[derive(Drop)]
+#[derive(Clone, Copy)]
 pub enum Start {
     Language,
     Script,
@@ -24,7 +24,7 @@ pub enum Start {
 
 // Where the parts end, and the counts. A part begins where the one before it ends, with its separator in front;
 // private use is what stands behind the extensions.
-#[derive(Drop)]
+#[derive(Clone, Copy)]
 pub struct Parts {
     pub start: Start,
     pub language: usize,
@@ -37,7 +37,7 @@ pub struct Parts {
 }
 
 // Why reading refuses, with the place where that has one.
-#[derive(Drop)]
+#[derive(Clone, Copy)]
 pub enum Refusal {
     Empty,
     TooLong,
@@ -51,14 +51,14 @@ pub enum Refusal {
 }
 
 // What reading finds: the parts, or why it refuses.
-#[derive(Drop)]
+#[derive(Clone, Copy)]
 pub enum Reading {
     Read(Parts),
     Refused(Refusal),
 }
 
 // Number and place as documents 01 and 02 give them.
-#[derive(Drop)]
+#[derive(Clone, Copy)]
 pub struct Fault {
     pub number: u8,
     pub place: usize,
@@ -270,7 +270,7 @@ fn walk(id: &[u8]) -> Reading
 }
 
 // A place, or none.
-#[derive(Drop)]
+#[derive(Clone, Copy)]
 pub enum Found {
     At(usize),
     Nothing,

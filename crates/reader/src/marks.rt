@@ -36,7 +36,7 @@ fn mark(set: u64, p: u32) -> u64
 }
 
 // The marks after a singleton, unless it is marked already.
-#[derive(Drop)]
+#[derive(Clone, Copy)]
 pub enum Marking {
     New(u64),
     Repeat,

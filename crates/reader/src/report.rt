@@ -12,13 +12,13 @@ ghost use Rattle.reader.specs.Words.{word_is, report_is, Within, later_word, Lat
 use crate::{Parts, Reading, Refusal, Start};
 
 // A subtag: its first `len` bytes.
-#[derive(Drop)]
+#[derive(Clone, Copy)]
 pub struct Word {
     pub bytes: [u8; 8],
     pub len: usize,
 }
 
-#[derive(Drop)]
+#[derive(Clone, Copy)]
 pub struct Report {
     pub number: u8,
     pub place: usize,

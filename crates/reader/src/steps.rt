@@ -10,7 +10,7 @@ use subtag::{Kind, Subtag};
 const ROOT: u64 = 8245931986745556992;
 
 // How far a language part has come.
-#[derive(Drop)]
+#[derive(Clone, Copy)]
 pub enum Stage {
     Language,
     Script,
@@ -20,7 +20,7 @@ pub enum Stage {
 }
 
 // Where the walk stands after a subtag.
-#[derive(Drop)]
+#[derive(Clone, Copy)]
 pub enum State {
     // nothing read yet
     First,
@@ -46,7 +46,7 @@ pub enum State {
 }
 
 // What is to be done about the subtag that led to a state.
-#[derive(Drop)]
+#[derive(Clone, Copy)]
 pub enum Verdict {
     Misplaced,
     Unfinished,

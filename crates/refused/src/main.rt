@@ -23,7 +23,7 @@ use table::hints::{fill_hints, many};
 use table_check::{Verdict, check_likely};
 
 // The output as it was printed, and the number of the next line.
-#[derive(Drop)]
+#[derive(Clone, Copy)]
 struct Printed {
     output: Output,
     next: usize,

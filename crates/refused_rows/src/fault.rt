@@ -14,7 +14,7 @@ use operations::complete::{answer, form_hinted};
 use operations::delivery::Answer;
 
 // Nothing, the member, or number and place of the identifier's refusal, the place counted from the line's first byte.
-#[derive(Drop)]
+#[derive(Clone, Copy)]
 pub enum LineFault {
     Nothing,
     OfMember(MemberFault),

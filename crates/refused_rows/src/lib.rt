@@ -22,7 +22,7 @@ use table_check::{Verdict, check_likely};
 
 // Number, place and table of the tables' refusal; how many bytes of the piece were answered, the number of the line behind
 // them, and the length of the rows.
-#[derive(Drop)]
+#[derive(Clone, Copy)]
 pub struct Rowed {
     pub number: u8,
     pub place: usize,

@@ -9,7 +9,7 @@ use bill_lines::shape::{one_digit, two_digits};
 use subtag::is_digit;
 
 // What is wrong before the identifier.
-#[derive(Drop)]
+#[derive(Clone, Copy)]
 pub enum MemberFault {
     NoTab,
     NoMember,
@@ -19,7 +19,7 @@ pub enum MemberFault {
 }
 
 // A member: one of 1 to 64, or what is wrong with it.
-#[derive(Drop)]
+#[derive(Clone, Copy)]
 pub enum Member {
     Good,
     Bad(MemberFault),

@@ -20,7 +20,7 @@ fn equals(a: &[u8], b: &[u8]) -> bool
 }
 
 // The kind of an alias, by its name.
-#[derive(Drop)]
+#[derive(Clone, Copy)]
 pub enum AliasKind {
     Language,
     Script,
@@ -93,7 +93,7 @@ fn alias_shape(kind: AliasKind, key: &[u8], value: &[u8]) -> bool
 }
 
 // Whether a line is an alias row, kind, key and value, and where its key ends.
-#[derive(Drop)]
+#[derive(Clone, Copy)]
 pub struct Fields {
     pub ok: bool,
     pub tab: usize,
@@ -106,7 +106,7 @@ fn no_fields() -> Fields
 }
 
 // The kind of an alias row, and where its name ends.
-#[derive(Drop)]
+#[derive(Clone, Copy)]
 pub struct Name {
     pub kind: AliasKind,
     pub end: usize,

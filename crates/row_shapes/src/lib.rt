@@ -14,7 +14,7 @@ use crate::aliases::alias_row;
 use crate::pairs::{Line, likely_row, parent_row};
 
 // The three tables.
-#[derive(Drop)]
+#[derive(Clone, Copy)]
 pub enum Table {
     Aliases,
     Likely,
@@ -45,7 +45,7 @@ fn rises(a: &[u8], b: &[u8]) -> bool
 }
 
 // What is wrong with the rows, and where the first wrong one starts.
-#[derive(Drop)]
+#[derive(Clone, Copy)]
 pub enum Rows {
     Good,
     Shape(usize),

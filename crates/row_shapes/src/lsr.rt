@@ -7,7 +7,7 @@ use crate::subtags::{Bytes, run_of};
 
 // Language, perhaps script, perhaps region: whether it is that, and where language and script end. Where there is no
 // script it ends with the language; the region goes to the end.
-#[derive(Drop)]
+#[derive(Clone, Copy)]
 pub struct Three {
     pub ok: bool,
     pub language: usize,
@@ -71,7 +71,7 @@ fn region_len(s: &[u8]) -> usize
 
 // The same three at the front of a text that may go on, and where they end. One pass finds that, so a row needs no search
 // for its tab and its end.
-#[derive(Drop)]
+#[derive(Clone, Copy)]
 pub struct Front {
     pub ok: bool,
     pub language: usize,

@@ -19,7 +19,7 @@ fn stands(s: &[u8], at: usize, b: u8) -> bool
 
 // Two texts of language, perhaps script, perhaps region, with a tab between them and 0A behind: where they end, and where
 // language and script of the second end in it.
-#[derive(Drop)]
+#[derive(Clone, Copy)]
 pub struct Pair {
     pub ok: bool,
     pub tab: usize,
@@ -70,7 +70,7 @@ fn pair_of(s: &[u8]) -> Pair
 }
 
 // Whether a row stands at the front of the rest of a table, where its key ends, which rows are sorted by, and where its 0A is.
-#[derive(Drop)]
+#[derive(Clone, Copy)]
 pub struct Line {
     pub ok: bool,
     pub key: usize,

@@ -5,7 +5,7 @@ ghost use Rattle.standard.specs.Table.{is_variant_tag};
 ghost use Rattle.row_shapes.specs.Shapes.{allowed, is_script, is_region, run};
 
 // What the bytes of a subtag may be.
-#[derive(Drop)]
+#[derive(Clone, Copy)]
 pub enum Bytes {
     Small,
     Capital,

@@ -1,5 +1,7 @@
 // Inner. Bytes and subtags: the class of a byte, which one match decides and everything else goes by; letter case; the
 // subtag at the front of what is left of an identifier, and what it can be.
+#![tactic(auto)]
+
 ghost use Rattle.std.specs.Prelude.{◌≡◌, map, ◌+◌, ◌≤◌, ◌<◌, length};
 ghost use Rattle.std.proofs.lemmas.List.Edits.{sets};
 ghost use Rattle.standard.specs.Tag.{head_tag};
@@ -10,7 +12,7 @@ ghost use Rattle.subtag.specs.Subtags.{first_byte, subtag_of};
 ghost use Rattle.subtag.specs.Kinds.{language_from, kind_from, kind_is, keyword_from, field_from};
 
 // What a byte can be.
-#[derive(Drop)]
+#[derive(Clone, Copy)]
 pub enum Class {
     Small,
     Capital,
@@ -182,7 +184,7 @@ fn wide(b: u8) -> u64
 // A subtag: its length; how many of its bytes are letters and digits; its first byte in lower case, 0 where it has none;
 // and its first eight bytes in lower case as a number, the first one highest, filled up with zeros. The order of subtags
 // is the order of these numbers.
-#[derive(Drop)]
+#[derive(Clone, Copy)]
 pub struct Subtag {
     pub len: usize,
     pub letters: usize,
@@ -275,7 +277,7 @@ pub fn put_normalised(src: &[u8], out: &mut [u8], at: usize) -> usize
 }
 
 // What a subtag after the language can be; no two at once.
-#[derive(Drop)]
+#[derive(Clone, Copy)]
 pub enum Kind {
     Script,
     Region,

@@ -1,6 +1,8 @@
 // Inner. Tables as lent bytes: the lookup of one row, which hands back the value as a part of the table. `lookup`
 // reads line by line and answers for all bytes; `find_sorted` gives the same answer by halves where the rows ascend, and
 // `hints` mostly without a search.
+#![tactic(auto)]
+
 pub mod hints;
 
 ghost use Rattle.std.specs.Prelude.{◌≡◌, [], ◌∷◌, ◌++◌, ◌+◌, ◌≤◌, length};
@@ -29,7 +31,7 @@ pub fn starts_row(line: &[u8], key: &[u8]) -> bool
 }
 
 // Whether there is a row with the key, and where its value is in the table.
-#[derive(Drop)]
+#[derive(Clone, Copy)]
 pub struct Found {
     pub found: bool,
     pub start: usize,

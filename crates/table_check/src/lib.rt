@@ -45,7 +45,7 @@ fn free(a: &[u8], hints: &[u16], t: &[u8], own: &[u16], i: usize, e: usize, tabl
 }
 
 // Where the first row that clashes starts, if there is one.
-#[derive(Drop)]
+#[derive(Clone, Copy)]
 pub enum Clash {
     Free,
     At(usize),
@@ -67,7 +67,7 @@ fn check_clash(a: &[u8], hints: &[u16], t: &[u8], own: &[u16], table: Table) -> 
 }
 
 // The answer of a check: good, or the number, the place and the table.
-#[derive(Drop)]
+#[derive(Clone, Copy)]
 pub enum Verdict {
     Good,
     Bad(u8, usize, u8),
@@ -85,7 +85,7 @@ fn number(table: Table) -> u8
 }
 
 // What the tables are used for; minimising uses those of maximising.
-#[derive(Drop)]
+#[derive(Clone, Copy)]
 pub enum Use {
     Canonicalise,
     Maximise,
@@ -151,7 +151,7 @@ fn check_shape(t: &[u8], table: Table) -> Verdict
 }
 
 // What a table that is used is tested for by itself: its size (11), then its rows (12 and 13).
-#[derive(Drop)]
+#[derive(Clone, Copy)]
 pub enum Test {
     Size,
     Shape,

@@ -22,7 +22,7 @@ use tsv::{put, put_number, put_shown};
 use words::put_told;
 
 // What can be wrong with a row: of shape (12), then of order (13).
-#[derive(Drop)]
+#[derive(Clone, Copy)]
 pub enum Wrong {
     NoEnd,
     Empty,

@@ -11,14 +11,14 @@ ghost use Rattle.tsv.specs.Shown.{shown};
 use shown::put_safe;
 
 // The digits of a number, from the index `start` on.
-#[derive(Drop)]
+#[derive(Clone, Copy)]
 pub struct Digits {
     pub bytes: [u8; 20],
     pub start: usize,
 }
 
 // A line of text: its first `len` bytes.
-#[derive(Drop)]
+#[derive(Clone, Copy)]
 pub struct Text {
     pub bytes: [u8; 80],
     pub len: usize,

@@ -1,0 +1,8 @@
+-- `subtag::is_capital` meets its contract. Assumes nothing.
+use Rattle.subtag.specs.Bytes.{is_capital}
+use Rattle.subtag.proofs.Bytes.{by-class, classed}
+use borrow.Author.Rules.{rules}
+use Rattle.subtag.proofs.is_capital.Goals as goal
+
+pub returns : goal.returns
+returns c = by-class _ is_capital c.capital_class.ensures c.class_of.ensures (classed _).capital

@@ -1,0 +1,9 @@
+-- `subtag::lower` meets its contract. Assumes nothing.
+use borrow.Author.Rules.{rules}
+use Rattle.subtag.proofs.lower.Goals as goal
+
+pub lowered-requires : goal.lowered-requires
+lowered-requires c = c.class_of.ensures
+
+pub returns : goal.returns
+returns c = c.lowered.ensures
