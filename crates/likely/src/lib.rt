@@ -1,5 +1,7 @@
 // Inner. Maximising and minimising: language, script and region completed by the likely table, or shortened as far as
 // that brings them back.
+#![tactic(auto)]
+
 pub mod forms;
 mod lsr;
 mod parts;

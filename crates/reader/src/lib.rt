@@ -1,5 +1,7 @@
 // Inner. Reading an identifier: where its parts end, or the first refusal of numbers 1 to 7, 15 and 16, in one walk
 // over its subtags.
+#![tactic(auto)]
+
 mod marks;
 pub mod report;
 pub mod steps;

@@ -1,4 +1,6 @@
 // Inner. The rows of the three tables: their shape (12) and their order (13).
+#![tactic(auto)]
+
 pub mod aliases;
 pub mod lsr;
 mod pairs;

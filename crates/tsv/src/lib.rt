@@ -1,5 +1,7 @@
 // Inner. Rows of text as the programs print them: fields, each with the mark that ends it (a tab, or 0A at the last
 // one).
+#![tactic(auto)]
+
 mod shown;
 
 ghost use Rattle.std.specs.Prelude.{◌≡◌, ◌+◌, ◌*◌, ◌≤◌, ◌<◌, length, drop};

@@ -1,0 +1,9 @@
+-- `reader::foreign` meets its contract. Assumes nothing.
+use Rattle.subtag.specs.Bytes.{is_other}
+use Rattle.subtag.proofs.Bytes.{by-class, foreign-as}
+use borrow.Author.Rules.{rules}
+use native.Mathlib.Omega.{arith}
+use Rattle.reader.proofs.foreign.Goals as goal
+
+pub returns : goal.returns
+returns c = by-class _ is_other c.other_class.ensures c.class_of.ensures (foreign-as _)

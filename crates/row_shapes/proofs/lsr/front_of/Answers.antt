@@ -1,0 +1,38 @@
+-- `row_shapes::lsr::front_of` meets its contract. Assumes nothing.
+use borrow.Author.Rules.{rules}
+use native.Mathlib.Omega.{arith}
+use Prim.Native.Nat.{◌+◌, ◌≤◌}
+use lib.ListN.{length}
+use Rattle.row_shapes.proofs.Fronts.{language-room, script-room, region-room, front_at}
+use Rattle.row_shapes.proofs.lsr.front_of.Goals as goal
+use Rattle.row_shapes.proofs.lsr.front_of.Goals.{After-language_len-l, After-region_len, After-script_len}
+
+one : (c : goal.After-language_len-l) → c.language_len-l.result ≤ length c.args.s.now
+one c = language-room _ _ c.language_len-l.ensures
+
+two : (c : goal.After-script_len) → c.language_len-l.result + c.script_len.result ≤ length c.args.s.now
+two c = script-room c.args.s.now _ _ (language-room _ _ c.language_len-l.ensures) c.script_len.ensures
+
+three : (c : goal.After-region_len) → c.language_len-l.result + c.script_len.result + c.region_len.result ≤ length c.args.s.now
+three c = region-room c.args.s.now (c.language_len-l.result + c.script_len.result) _ (script-room c.args.s.now _ _ (language-room _ _ c.language_len-l.ensures) c.script_len.ensures) c.region_len.ensures
+
+pub slice_bounds-script_len-count : goal.slice_bounds-script_len-count
+slice_bounds-script_len-count c = omega (arith, one (goal.at.slice_bounds-script_len-count c).After-language_len-l)
+
+pub slice_bounds-script_len-start : goal.slice_bounds-script_len-start
+slice_bounds-script_len-start c = omega (arith, one (goal.at.slice_bounds-script_len-start c).After-language_len-l)
+
+pub overflow_add-e : goal.overflow_add-e
+overflow_add-e c = omega (arith, two (goal.at.overflow_add-e c).After-script_len)
+
+pub slice_bounds-region_len-count : goal.slice_bounds-region_len-count
+slice_bounds-region_len-count c = omega (arith, two (goal.at.slice_bounds-region_len-count c).After-script_len)
+
+pub slice_bounds-region_len-start : goal.slice_bounds-region_len-start
+slice_bounds-region_len-start c = omega (arith, two (goal.at.slice_bounds-region_len-start c).After-script_len)
+
+pub overflow_add-end : goal.overflow_add-end
+overflow_add-end c = omega (arith, three (goal.at.overflow_add-end c).After-region_len)
+
+pub returns : goal.returns
+returns c = front_at _ _ _ _ c.language_len-l.ensures c.script_len.ensures c.region_len.ensures

@@ -1,0 +1,18 @@
+-- `row_shapes::subtags::is_script` meets its contract. Assumes nothing.
+use borrow.Author.Tests.{not-true, not-false}
+use mathlib.Core.Path.{sym, ◌∙◌}
+use native.Mathlib.Omega.{arith}
+use Rattle.row_shapes.specs.Shapes.{allowed}
+use Rattle.row_shapes.proofs.Tags as tags
+use borrow.Author.Rules.{rules}
+use Rattle.row_shapes.proofs.subtags.is_script.Goals as goal
+
+pub returns-then-s-ne4 : goal.returns-then-s-ne4
+returns-then-s-ne4 c = tags.script-size _ c.if-s-ne4.true
+
+pub returns-then-not-is_capital : goal.returns-then-not-is_capital
+returns-then-not-is_capital c = sym (sym (tags.script-is _ c.if-s-ne4.false) ∙ rw (sym c.is_capital.ensures ∙ c.if-not-is_capital.true))
+
+pub returns : goal.returns
+unfolding allowed
+returns c = c.every.ensures ∙ sym (sym (tags.script-is _ c.if-s-ne4.false) ∙ rw (sym c.is_capital.ensures ∙ c.if-not-is_capital.false))
