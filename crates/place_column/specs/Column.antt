@@ -1,8 +1,5 @@
 -- The last column of `inspect`: where the parts of an identifier stand. Assumes nothing.
-use mathlib.Core.Bool.{cond}
-use mathlib.Core.List.{List, [], ◌∷◌, ◌++◌}
-use Prim.Native.Nat.{ℕ}
-use lib.Dec.{eqb}
+use Rattle.std.specs.Prelude.{cond, List, [], ◌∷◌, ◌++◌, ℕ, eqb}
 use Rattle.standard.specs.Places.{Span, Places}
 use Rattle.tsv.specs.Fields.{Bytes, decimal, field}
 

@@ -1,7 +1,7 @@
 // Inner. The last column of the rows of `inspect`: where the parts of an identifier stand.
-ghost use mathlib.Core.Path.{◌≡◌};
-ghost use Prim.Native.Nat.{◌+◌, ◌≤◌};
-ghost use lib.ListN.{length};
+#![tactic(auto)]
+
+ghost use Rattle.std.specs.Prelude.{◌≡◌, ◌+◌, ◌≤◌, length};
 ghost use Rattle.byte_string.specs.Strings.{WritesWithin};
 ghost use Rattle.reader.specs.Spans.{span_is, up_to_count, places_is, Counted};
 ghost use Rattle.tsv.specs.Fields.{field};

@@ -1,14 +1,15 @@
--- The spans that reading reports of a part can be marked in one line. Assumes nothing.
-use mathlib.Core.Path.{◌≡◌, refl}
+-- The spans of a part of what is read can be marked in one line. Assumes nothing.
+use mathlib.Core.Path.{◌≡◌}
 use mathlib.Core.List.{List, [], ◌∷◌, ◌++◌}
 use Prim.Native.Nat.{ℕ, suc, ◌+◌, ◌≤◌}
 use native.Mathlib.Omega.{arith}
 use lib.ListN.{length}
 use Rattle.standard.specs.Tag.{All}
-use Rattle.standard.specs.Reading.{Read, read, good, bad}
-use Rattle.standard.specs.Places.{Span, Places, unwritten, shown, written, Apart, Inside}
-use Rattle.standard.specs.Report.{report}
-use Rattle.standard.proofs.Places.{not-overlapping, refused-nowhere}
+use Rattle.standard.specs.Grammar.{is_singleton}
+use Rattle.standard.specs.Identifier.{Identifier}
+use Rattle.standard.specs.Reading.{split, up_to, read, good}
+use Rattle.standard.specs.Places.{Span, Places, places_of, unwritten, shown, written, Apart, Inside}
+use Rattle.standard.proofs.Places.{not-overlapping}
 use Rattle.underline.specs.declared.Part.{Part}
 use Rattle.underline.specs.declared.Part.TheVariants.{Nothing, Language, Script, Region, Variants}
 use Rattle.underline.specs.Underline.{part_spans, Drawable}
@@ -60,17 +61,13 @@ part-drawable n ps d Script = front n (shown ps.script) _ (end n (shown ps.langu
 part-drawable n ps d Region = front n (shown ps.region) _ (end n (shown ps.script) _ (end n (shown ps.language) _ d))
 part-drawable n ps d Variants = end n (shown ps.region) _ (end n (shown ps.script) _ (end n (shown ps.language) _ d))
 
-refused : (n : ℕ) → Drawable n (written unwritten)
+-- of every accepted input and every part
+pub drawable : (part : Part) (x : List ℕ) (i : Identifier) → read x ≡ good i → Drawable (length x) (part_spans part (places_of (up_to is_singleton (split x))))
+drawable part x i e =
+    let p = not-overlapping x i e in
+    part-drawable (length x) (places_of (up_to is_singleton (split x))) (record { apart = p.0; inside = p.1 }) part
+
+-- of a refusal, which has no places
+pub refused-drawable : (part : Part) (n : ℕ) → Drawable n (part_spans part unwritten)
 unfolding written shown
-refused n = none-drawable n
-
-all-drawable : (x : List ℕ) → Drawable (length x) (written (report x).places)
-all-drawable x = go (read x) refl
-  where
-    go : (r : Read) → read x ≡ r → Drawable (length x) (written (report x).places)
-    go (good i) e = let p = not-overlapping x i e in record { apart = p.0; inside = p.1 }
-    go (bad n p) e = rw (refused-nowhere x n p e) (refused (length x))
-
--- of every input and every part
-pub drawable : (part : Part) (x : List ℕ) → Drawable (length x) (part_spans part (report x).places)
-drawable part x = part-drawable (length x) (report x).places (all-drawable x) part
+refused-drawable part n = part-drawable n unwritten (none-drawable n) part

@@ -1,5 +1,5 @@
 -- The names of the parts. Assumes nothing.
-use mathlib.Core.Bool.{cond}
+use Rattle.std.specs.Prelude.{cond}
 use Rattle.standard.specs.Tag.{text, same}
 use Rattle.tsv.specs.Fields.{Bytes}
 use Rattle.underline.specs.declared.Part.TheVariants.{Language, Script, Region, Variants}

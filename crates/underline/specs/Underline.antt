@@ -1,7 +1,5 @@
 -- An identifier again with one of its parts underlined. Assumes nothing.
-use mathlib.Core.List.{List, [], ◌∷◌, ◌++◌}
-use Prim.Native.Nat.{ℕ, ◌+◌, ◌-◌}
-use lib.ListN.{replicate}
+use Rattle.std.specs.Prelude.{List, [], ◌∷◌, ◌++◌, ℕ, ◌+◌, ◌-◌, replicate}
 use Rattle.standard.specs.Places.{Span, Places, shown, Apart, Inside}
 use Rattle.tsv.specs.Fields.{Bytes, field}
 use Rattle.underline.specs.declared.Part.{Part}

@@ -1,9 +1,9 @@
 // Inner. An identifier again with one of its parts underlined, as it stands below a row about it.
+#![tactic(auto)]
+
 pub mod names;
 
-ghost use mathlib.Core.List.{map};
-ghost use Prim.Native.Nat.{◌+◌, ◌≤◌};
-ghost use lib.ListN.{length, take, replicate};
+ghost use Rattle.std.specs.Prelude.{map, ◌+◌, ◌≤◌, length, take, replicate};
 ghost use Rattle.standard.specs.Places.{shown, Apart};
 ghost use Rattle.byte_string.specs.Strings.{Writes, WritesWithin};
 ghost use Rattle.reader.specs.Spans.{span_is, places_is, Counted};
@@ -13,7 +13,7 @@ use reader::spans::{Places, Span};
 use tsv::put;
 
 // The part of an identifier to underline, or none.
-#[derive(Drop)]
+#[derive(Clone, Copy)]
 pub enum Part {
     Nothing,
     Language,
@@ -66,8 +66,7 @@ fn put_all_marks(spans: [Span; 50], count: usize, out: &mut [u8], at: usize) -> 
 // Writes an identifier and the marks below a span of it, if something was written there.
 fn underline_one(id: &[u8], s: Span, out: &mut [u8], at: usize) -> usize
     requires { let id = id.now in Drawable (length id) (shown (span_is s)) × (length id ≤ 255) × (at + 512 ≤ length out.old) }
-    ensures { let out' = out.exit.now in let out = out.entry.now in
-        WritesWithin (at + 512) out at (lines_text id.now (shown (span_is s))) result out' }
+    ensures { WritesWithin (at + 512) out.old at (lines_text id.now (shown (span_is s))) result out.new }
 {
     if s.len == 0 {
         return at;
@@ -82,8 +81,7 @@ fn underline_one(id: &[u8], s: Span, out: &mut [u8], at: usize) -> usize
 fn underline_all(id: &[u8], spans: [Span; 50], count: usize, out: &mut [u8], at: usize) -> usize
     requires { let id = id.now in let ss = take count (map span_is spans) in
         (count ≤ 50) × Drawable (length id) ss × (length id ≤ 255) × (at + 512 ≤ length out.old) }
-    ensures { let out' = out.exit.now in let out = out.entry.now in
-        WritesWithin (at + 512) out at (lines_text id.now (take count (map span_is spans))) result out' }
+    ensures { WritesWithin (at + 512) out.old at (lines_text id.now (take count (map span_is spans))) result out.new }
 {
     if count == 0 {
         return at;
@@ -106,8 +104,7 @@ pub fn put_underlined(
 ) -> usize
     requires { let id = id.now in
         Counted count places × Drawable (length id) (part_spans part (places_is count places)) × (length id ≤ 255) × (at + 512 ≤ length out.old) }
-    ensures { let out' = out.exit.now in let out = out.entry.now in
-        WritesWithin (at + 512) out at (underlined_text part id.now (places_is count places)) result out' }
+    ensures { WritesWithin (at + 512) out.old at (underlined_text part id.now (places_is count places)) result out.new }
 {
     let language = places.language;
     let script = places.script;

@@ -1,12 +1,12 @@
 // The names of the parts.
-ghost use mathlib.Core.Path.{◌≡◌};
+ghost use Rattle.std.specs.Prelude.{◌≡◌};
 ghost use Rattle.underline.specs.Names.{part_named};
 
 use crate::Part;
 use byte_string::same;
 
 // The part that a name is of.
-#[derive(Drop)]
+#[derive(Clone, Copy)]
 pub enum Named {
     Is(Part),
     Unknown,

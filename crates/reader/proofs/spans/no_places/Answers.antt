@@ -1,6 +1,5 @@
 -- `reader::spans::no_places` meets its contract. Assumes nothing.
 use Rattle.reader.specs.Spans.{places_is, up_to_count}
-use borrow.Author.Rules.{rules}
 use native.Mathlib.Omega.{arith}
 use Rattle.reader.proofs.spans.no_places.Goals as goal
 

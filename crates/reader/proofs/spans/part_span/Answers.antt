@@ -1,7 +1,6 @@
 -- `reader::spans::part_span` meets its contract. Assumes nothing.
 use mathlib.Core.Path.{◌∙◌}
 use Rattle.reader.proofs.Spanned as spanned
-use borrow.Author.Rules.{rules}
 use native.Mathlib.Omega.{arith}
 use Rattle.reader.proofs.spans.part_span.Goals as goal
 

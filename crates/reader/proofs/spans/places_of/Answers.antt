@@ -1,7 +1,5 @@
 -- `reader::spans::places_of` meets its contract. Assumes nothing.
 use Rattle.reader.proofs.Placed as placed
-use borrow.Author.Rules.{rules}
-use native.Mathlib.Omega.{arith}
 use Rattle.reader.proofs.spans.places_of.Goals as goal
 
 pub part_span-language-requires : goal.part_span-language-requires

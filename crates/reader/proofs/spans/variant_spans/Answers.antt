@@ -1,6 +1,4 @@
 -- `reader::spans::variant_spans` meets its contract. Assumes nothing.
-use Prim.Native.Nat.{◌-◌}
-use borrow.Author.Rules.{rules}
 use native.Mathlib.Omega.{arith}
 use Rattle.reader.proofs.Spanned as spanned
 use Rattle.reader.proofs.spans.variant_spans.Goals as goal

@@ -1,7 +1,5 @@
 -- `reader::spans::variant_spans` meets its contract. Assumes nothing.
 use Prim.Native.Nat.{◌-◌}
-use borrow.Author.Rules.{rules}
-use native.Mathlib.Omega.{arith}
 use Rattle.reader.proofs.Spanned as spanned
 use Rattle.reader.proofs.spans.variant_spans.Given as goal
 
