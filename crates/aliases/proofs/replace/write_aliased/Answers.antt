@@ -15,14 +15,14 @@ use Rattle.aliases.proofs.Cased as cased-laws
 use Rattle.aliases.proofs.Keyed as keys
 use borrow.Author.Rules.{rules}
 use Rattle.aliases.proofs.replace.write_aliased.Goals as goal
-use Rattle.aliases.proofs.replace.write_aliased.Goals.{After-key-4-1, Else-e-n}
+use Rattle.aliases.proofs.replace.write_aliased.Goals.{After-put_first-e, Else-e-n}
 
-abbrev tag : goal.After-key-4-1 → Tag
+abbrev tag : goal.After-put_first-e → Tag
 tag c =
     let a = c.args in
     pick (raised_tag a.count (map normal_byte a.given.now)) a.brought.now
 
-key : (c : goal.After-key-4-1)
+key : (c : goal.After-put_first-e)
     → keys.Keyed c.args.name.now (tag c) c.put_first-e.new.out
     c.put-n.result c.put_first-e.result
 key c =
@@ -37,24 +37,24 @@ part : (c : goal.Else-e-n)
     let x = take c.put_first-e.result c.put_first-e.new.out in
     aliased_part a.aliases.now a.name.now (let a = c.args in pick (raised_tag a.count (map normal_byte a.given.now)) a.brought.now) ≡ led (optional (replaced_by (lookup (rows a.aliases.now) x) (drop c.put-n.result x))))
 part c =
-    keys.aliased-some _ _ _ _ _ _ (let a = c.args in let m = length-map a.given.now normal_byte in let z : length (tag c) ≤ 8 = cased-laws.pick_small 8 a.count (map normal_byte a.given.now) a.brought.now (omega arith) (omega arith) in keys.keyed _ _ _ _ _ _ _ c.put-n.ensures.0 c.put-n.ensures.1 c.put_first-e.ensures.0 c.put_first-e.ensures.1 (omega arith)) (omega (arith, c.if-e-n.false, c.put_first-e.ensures.0))
+    keys.aliased-some _ _ _ _ _ _ (let a = c.args in let m = length-map a.given.now normal_byte in let z : length (pick (raised_tag a.count (map normal_byte a.given.now)) a.brought.now) ≤ 8 = cased-laws.pick_small 8 a.count (map normal_byte a.given.now) a.brought.now (omega arith) (omega arith) in keys.keyed _ _ _ _ _ _ _ c.put-n.ensures.0 c.put-n.ensures.1 c.put_first-e.ensures.0 c.put_first-e.ensures.1 (omega arith)) (omega (arith, c.if-e-n.false, c.put_first-e.ensures.0))
 
 pub returns-then-e-n : goal.returns-then-e-n
 returns-then-e-n c =
     let a = c.args in
-    let z : length (tag (goal.at.returns-then-e-n c).After-key-4-1) ≡ 0 = omega (arith, c.put_first-e.ensures.0) in
-    let e = keys.aliased-none a.aliases.now a.name.now (tag (goal.at.returns-then-e-n c).After-key-4-1) z in
+    let z : length (tag (goal.at.returns-then-e-n c).After-put_first-e) ≡ 0 = omega (arith, c.put_first-e.ensures.0) in
+    let e = keys.aliased-none a.aliases.now a.name.now (tag (goal.at.returns-then-e-n c).After-put_first-e) z in
     (omega (arith, ap length e), ap (sets a.out.now a.at) (sym e))
 
 pub slice_bounds-key-end : goal.slice_bounds-key-end
-slice_bounds-key-end c = (key (goal.at.slice_bounds-key-end c).After-key-4-1).fits
+slice_bounds-key-end c = (key (goal.at.slice_bounds-key-end c).After-put_first-e).fits
 
 pub slice_bounds-write_replaced-end : goal.slice_bounds-write_replaced-end
-slice_bounds-write_replaced-end c = (key (goal.at.slice_bounds-write_replaced-end c).After-key-4-1).size
+slice_bounds-write_replaced-end c = (key (goal.at.slice_bounds-write_replaced-end c).After-put_first-e).size
 
 pub write_replaced-requires : goal.write_replaced-requires
 write_replaced-requires c =
-    ((key (goal.at.write_replaced-requires c).After-key-4-1).skips, c.requires.3, omega (arith, ap length (part (goal.at.write_replaced-requires c).Else-e-n)))
+    ((key (goal.at.write_replaced-requires c).After-put_first-e).skips, c.requires.3, omega (arith, ap length (part (goal.at.write_replaced-requires c).Else-e-n)))
 
 pub returns : goal.returns
 returns c =
