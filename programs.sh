@@ -320,22 +320,24 @@ enter_tables() {
 # opens a pipe, for what a process has to say at its end
 open_pipe() { { exec {pipe}<> <(:); } 2>/dev/null || fail "a pipe: $(cause eval 'exec {pipe}<> <(:)')"; }
 
-# runs the program: the digit that it writes to descriptor 3 at its end is the exit status; of SIGPIPE nothing is said
+# runs the program, whose exit status is this script's. Of 141, as of SIGPIPE, nothing is said: nobody reads the output any
+# more; where that signal is ignored it is a write that failed
 run() {
-    local fd digit=''
-    exec 3<&"$pipe" {pipe}<&- || exit 1
+    local fd ignored
+    exec 3<&- {pipe}<&-
+    ignored=$(trap -p PIPE)
     catch
     (
         for fd in $closed; do exec {fd}>&-; done
         exec "$program" status
     ) <&0 &
     await $!
+    [ "$status" -ne 141 ] || [ -z "$ignored" ] || fail 'standard output: Broken pipe'
     if [ "$status" -gt 128 ]; then
         [ "$status" -eq 141 ] || say "ended by SIG$(kill -l "$status")"
         exit "$status"
     fi
-    ! read -r -t 0 -u 3 || read -r -n 1 -u 3 digit
-    case $digit in [013]) exit "$digit" ;; *) exit 1 ;; esac
+    case $status in [013]) exit "$status" ;; *) exit 1 ;; esac
 }
 
 # descriptors that are closed, and closed again for the program: meanwhile a folder, which can't be read or written as a
