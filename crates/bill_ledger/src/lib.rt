@@ -1,5 +1,7 @@
 // Inner. The entries of a bill that is being made, in two lent arrays: the keys in byte order, 32 bytes for each, its
 // length first; and for each its members' marks and its deliveries, side by side.
+#![tactic(auto)]
+
 ghost use Rattle.std.specs.Prelude.{◌≡◌, true, List, ℕ, ◌+◌, ◌*◌, ◌≤◌, ◌<◌, length, get_or};
 ghost use Rattle.standard.specs.Tag.{order};
 ghost use Rattle.standard.specs.Delivery.{Bytes};

@@ -1,5 +1,5 @@
 -- Laws of the keys of a bill: each occurs once. Assumes nothing.
-use mathlib.Core.Path.{◌≡◌, refl, sym, ap, ◌∙◌}
+use mathlib.Core.Path.{subst, ◌≡◌, refl, sym, ap, ◌∙◌}
 use mathlib.Core.Bool.{Bool, true, false, not, ◌||◌}
 use mathlib.Core.List.{List, [], ◌∷◌}
 use Prim.Native.Nat.{ℕ, suc, Ordering}
@@ -65,7 +65,7 @@ insert-once x (y ∷ ys) h = go (order x y) refl (insert-once x ys (ascending-re
   where
     go : (o : Ordering) → order x y ≡ o → times x (insert_by itself x ys) ≡ 1 → times x (insert_by itself x (y ∷ ys)) ≡ 1
     go Ordering.lt e i = rw (e, insert_by) (rw (same_refl x) (ap suc (below_none x y ys e h)))
-    go Ordering.eq e i = rw (e, insert_by) (rw (same_refl x) (ap suc (let q = order-eq x y e in rw q (rest-none y ys h))))
+    go Ordering.eq e i = rw (e, insert_by) (rw (same_refl x) (ap suc (subst (λ (z : Tag). times z ys ≡ 0) (sym (order-eq x y e)) (rest-none y ys h))))
     go Ordering.gt e i = rw (e, insert_by) (rw (gt-same x y e) i)
 
 insert-other : (x y : Tag) (zs : List Tag) → same x y ≡ false → times x (insert_by itself y zs) ≡ times x zs

@@ -1,6 +1,6 @@
 -- Choosing again and again the least above the last one chosen gives the insertion sort in which the first of equals stands.
 -- Assumes nothing.
-use mathlib.Core.Path.{◌≡◌, refl, sym, ap, ◌∙◌}
+use mathlib.Core.Path.{subst, ◌≡◌, refl, sym, ap, ◌∙◌}
 use mathlib.Core.Bool.{Bool, true, false, cond}
 use mathlib.Core.List.{List, [], ◌∷◌}
 use mathlib.Core.Option.{Option, none, some}
@@ -146,7 +146,7 @@ module _ {A : Type 0} (key : A → ℕ) where
           let h = ltb-true k (key x) f in
           let o : above k xs ≡ xs = above-all k xs (over-less k (key x) xs (omega arith) r.0) in
           let s : above (key x) (x ∷ xs) ≡ xs = above-out (key x) x xs (le-ltb (key x) (key x) (omega arith)) ∙ above-all (key x) xs r.0 in
-          rw (← b) (h, above_in k x xs f ∙ ap (◌∷◌ x) (o ∙ sym s))
+          subst (λ (v : A). (k < key v) × (above k (x ∷ xs) ≡ v ∷ above (key v) (x ∷ xs))) b (h, above_in k x xs f ∙ ap (◌∷◌ x) (o ∙ sym s))
       go false f ih =
           let w = ih (sym (ap front (above-out k x xs f)) ∙ e) in
           let g : ltb (key u) (key x) ≡ false = le-ltb (key u) (key x) (omega (arith, w.0, ltb-false k (key x) f)) in

@@ -1,5 +1,7 @@
 // Inner. What the first lines of an input say of how it is written: plainly, or so that its lines can't be read as they are
 // meant.
+#![tactic(auto)]
+
 ghost use Rattle.std.specs.Prelude.{◌≡◌};
 ghost use Rattle.encoding.specs.Encodings.{marked, wide_pair, wide, front_of, ends_in_return, has_return, ending_of};
 

@@ -33,10 +33,10 @@ fn find_key<'a>(
     found: &mut bool,
 ) -> &'a [u8]
     requires { length language.now + length script.now + length region.now ≤ 32 }
-    ensures fact { let likely = likely.entry.now in let hints = hints.entry.now in let language = language.entry.now in
+    ensures result_value { let likely = likely.entry.now in let hints = hints.entry.now in let language = language.entry.now in
         let script = script.entry.now in let region = region.entry.now in
         (Indexed likely hints → result.now ≡ value_or (lookup (rows likely) (language ++ (script ++ region)))) }
-    ensures fact_2 { let found' = found.new in let likely = likely.entry.now in let hints = hints.entry.now in
+    ensures found_after { let found' = found.new in let likely = likely.entry.now in let hints = hints.entry.now in
         let language = language.entry.now in let script = script.entry.now in let region = region.entry.now in
         (Indexed likely hints → found' ≡ is_found (lookup (rows likely) (language ++ (script ++ region)))) }
 {
@@ -56,10 +56,10 @@ pub(crate) fn find<'a>(
     region: &[u8],
     found: &mut bool,
 ) -> &'a [u8]
-    ensures fact { let likely = likely.entry.now in let hints = hints.entry.now in let language = language.entry.now in
+    ensures result_value { let likely = likely.entry.now in let hints = hints.entry.now in let language = language.entry.now in
         let script = script.entry.now in let region = region.entry.now in
         (Ready likely hints (parts3 language script region) → result.now ≡ value_or (lookup (rows likely) (language ++ (script ++ region)))) }
-    ensures fact_2 { let found' = found.new in let likely = likely.entry.now in let hints = hints.entry.now in
+    ensures found_after { let found' = found.new in let likely = likely.entry.now in let hints = hints.entry.now in
         let language = language.entry.now in let script = script.entry.now in let region = region.entry.now in
         (Ready likely hints (parts3 language script region) → found' ≡ is_found (lookup (rows likely) (language ++ (script ++ region)))) }
 {
@@ -79,10 +79,10 @@ fn find_shorter<'a>(
     region: &[u8],
     found: &mut bool,
 ) -> &'a [u8]
-    ensures fact { let likely = likely.entry.now in let hints = hints.entry.now in let language = language.entry.now in
+    ensures result_value { let likely = likely.entry.now in let hints = hints.entry.now in let language = language.entry.now in
         let script = script.entry.now in let region = region.entry.now in
         (Ready likely hints (parts3 language script region) → result.now ≡ value_or (shorter_value likely (parts3 language script region))) }
-    ensures fact_2 { let found' = found.new in let likely = likely.entry.now in let hints = hints.entry.now in
+    ensures found_after { let found' = found.new in let likely = likely.entry.now in let hints = hints.entry.now in
         let language = language.entry.now in let script = script.entry.now in let region = region.entry.now in
         (Ready likely hints (parts3 language script region) → found' ≡ is_found (shorter_value likely (parts3 language script region))) }
 {
@@ -110,10 +110,10 @@ pub(crate) fn find_row<'a>(
     region: &[u8],
     found: &mut bool,
 ) -> &'a [u8]
-    ensures fact { let likely = likely.entry.now in let hints = hints.entry.now in let language = language.entry.now in
+    ensures result_value { let likely = likely.entry.now in let hints = hints.entry.now in let language = language.entry.now in
         let script = script.entry.now in let region = region.entry.now in
         (Ready likely hints (parts3 language script region) → result.now ≡ value_or (row_value likely (parts3 language script region))) }
-    ensures fact_2 { let found' = found.new in let likely = likely.entry.now in let hints = hints.entry.now in
+    ensures found_after { let found' = found.new in let likely = likely.entry.now in let hints = hints.entry.now in
         let language = language.entry.now in let script = script.entry.now in let region = region.entry.now in
         (Ready likely hints (parts3 language script region) → found' ≡ is_found (row_value likely (parts3 language script region))) }
 {

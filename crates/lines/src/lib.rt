@@ -1,6 +1,8 @@
 // Inner. The line reader of the programs: blocks of input come in, whole lines go out, and of a line only the first
 // 260 bytes are kept: an identifier of more than 255 is refused, and a few bytes may stand before one. So an
 // unfinished line never takes more than 260 bytes.
+#![tactic(auto)]
+
 ghost use Rattle.std.specs.Prelude.{◌≡◌, List, ◌+◌, ◌-◌, ◌≤◌, length, take, drop};
 ghost use Rattle.std.proofs.lemmas.List.Edits.{sets};
 ghost use Rattle.byte_string.specs.Strings.{WritesWithin};

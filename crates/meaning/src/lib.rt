@@ -1,4 +1,6 @@
 // Inner. The words for the numbers that the library, the bill and the check of the tables answer.
+#![tactic(auto)]
+
 ghost use Rattle.std.specs.Prelude.{◌+◌, ◌≤◌, length};
 ghost use Rattle.byte_string.specs.Strings.{WritesWithin};
 ghost use Rattle.tsv.specs.Fields.{field};

@@ -34,7 +34,7 @@ fn last_dash(id: &[u8]) -> usize
 
 // The value of the row of a line with so many variants, as a part of the lent table; a key has no variants.
 fn row_of<'a>(parents: &'a [u8], id: &[u8], variants: usize, found: &mut bool) -> &'a [u8]
-    ensures fact { let parents = parents.entry.now in let id = id.entry.now in
+    ensures result_value { let parents = parents.entry.now in let id = id.entry.now in
         (length result.now ≤ length parents) × (Sorted parents → result.now ≡ value_or (row_text parents variants id)) }
     ensures found_after { Sorted parents.now → found.new ≡ is_found (row_text parents.now variants id.now) }
 {

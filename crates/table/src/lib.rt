@@ -160,7 +160,7 @@ pub fn find_sorted(t: &[u8], key: &[u8]) -> Found
 
 // As lookup, of a sorted table.
 pub fn lookup_sorted<'a>(t: &'a [u8], key: &[u8], found: &mut bool) -> &'a [u8]
-    ensures fact { let t = t.entry.now in
+    ensures result_value { let t = t.entry.now in
         (length result.now ≤ length t) × (Sorted t → result.now ≡ value_of t (located t key.now)) }
     ensures found_after { Sorted t.now → found.new ≡ (located t.now key.now).found }
 {

@@ -1,4 +1,6 @@
 // Inner. The check of the three tables: 11, 12 and 13, and rows that clash (14).
+#![tactic(auto)]
+
 mod replaced;
 
 ghost use Rattle.std.specs.Prelude.{◌≡◌, true, [], ◌≤◌, length};

@@ -1,5 +1,7 @@
 // Public, over lines. The line that the program `tables_check` prints of a verdict: `table`, its number, table and place,
 // then the line of the file, the row as it stands there, and what is wrong.
+#![tactic(auto)]
+
 mod cases;
 mod order;
 mod shape;

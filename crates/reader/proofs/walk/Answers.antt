@@ -8,7 +8,7 @@ use lib.ListN.{length}
 use Rattle.reader.specs.Parts.{outcome_of}
 use Rattle.reader.proofs.Loop as loop
 use Rattle.reader.proofs.walk.Goals as goal
-use Rattle.reader.proofs.walk.Goals.{After-verdict_of-verdict}
+use Rattle.reader.proofs.walk.Goals.{After-verdict_of-verdict, Joined-verdict, in-Singleton+in-New, in-Listed+else-loop-i-test, in-Plain}
 
 -- what the scan, the transition and the verdict say of the subtag at hand
 told_at : (c : goal.After-verdict_of-verdict)
@@ -20,13 +20,12 @@ joined : (c : goal.Joined-verdict)
     → loop.Behind c.args.id.now c.match-verdict.listed c.match-verdict.count c.match-verdict.set c.walk.parts
     c.walk.at c.scan-t.result c.step-next.result
 joined c =
-    ⊎_elim
-    (λ w. rw (w.6, w.7, w.8) (loop.behind-new _ _ _ _ _ _ _ _ c.walk.invariant _ _ _ (loop.told _ _ _ _ _ _ c.scan-t.ensures c.step-next.ensures c.verdict_of-verdict.ensures) w.1.given.1 _ w.2.ensures _ w.4.given.1))
-    (λ v. ⊎_elim
-    (λ w. rw (w.4, w.5, w.6) (loop.scan-end _ _ _ _ _ _ _ _ _ _ w.2.inv w.3.left))
-    (λ w. rw (w.2, w.3, w.4) (loop.behind-plain _ _ _ _ _ _ _ _ c.walk.invariant _ _ _ (loop.told _ _ _ _ _ _ c.scan-t.ensures c.step-next.ensures c.verdict_of-verdict.ensures) w.1.given.1))
-    v)
-    c.match-verdict.branch
+    let o = loop.told _ _ _ _ _ _ c.scan-t.ensures c.step-next.ensures c.verdict_of-verdict.ensures in
+    elim c.match-verdict.branch [
+      | in-Singleton+in-New w ↦ rw (w.listed-is, w.count-is, w.set-is) (loop.behind-new _ _ _ _ _ _ _ _ c.walk.invariant _ _ _ o w.in-Singleton.is _ w.add-m.ensures _ w.in-New.is)
+      | in-Listed+else-loop-i-test w ↦ rw (w.listed-is, w.count-is, w.set-is) (loop.scan-end _ _ _ _ _ _ _ _ _ _ w.loop-i.invariant w.loop-i-test.false)
+      | in-Plain w ↦ rw (w.listed-is, w.count-is, w.set-is) (loop.behind-plain _ _ _ _ _ _ _ _ c.walk.invariant _ _ _ o w.in-Plain.is)
+    ]
 
 pub walk-init : goal.walk-init
 walk-init c = loop.walking_start _ _ c.requires c.no_keys-listed.ensures _ c.unread-parts.ensures

@@ -5,4 +5,4 @@ use borrow.Author.Rules.{rules}
 use Rattle.table.proofs.lookup_sorted.Goals as goal
 
 pub returns : goal.returns
-returns c = let f = c.find_sorted-f in record { fact = (omega arith, λ s. cut-value _ f.result _ (f.ensures.0 s)); found_after = λ s. cut-found f.result _ (f.ensures.0 s) }
+returns c = let f = c.find_sorted-f in record { result_value = (omega arith, λ s. cut-value _ f.result _ (f.ensures.0 s)); found_after = λ s. cut-found f.result _ (f.ensures.0 s) }

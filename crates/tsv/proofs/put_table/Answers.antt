@@ -15,6 +15,6 @@ put_number-requires c = omega (arith, laws.table-word, c.put-p.ensures.0, c.put_
 
 pub returns : goal.returns
 returns c =
-    let w = laws.table-written c.args.out.now c.put-p.new.1.1.0 c.put_number-q.new.1.1.0 c.put_number-r.new.1.1.0 c.put_number.new.1.1.0 c.put-p.result c.put_number-q.result c.put_number-r.result c.put_number.result _ _ _
+    let w = laws.table-written c.args.out.now c.put-p.new.out c.put_number-q.new.out c.put_number-r.new.out c.put_number.new.out c.put-p.result c.put_number-q.result c.put_number-r.result c.put_number.result _ _ _
     c.put-p.ensures (c.put_number-q.ensures.0, c.put_number-q.ensures.1) (c.put_number-r.ensures.0, c.put_number-r.ensures.1) (c.put_number.ensures.0, c.put_number.ensures.1) in
     (omega (arith, w.0), w.1, omega (arith, laws.table-word, c.put-p.ensures.0, c.put_number-q.ensures.2, c.put_number-r.ensures.2, c.put_number.ensures.2))

@@ -13,7 +13,7 @@ use Rattle.likely.proofs.forms.form_by_parts.Goals as goal
 pub returns-then-not-found : goal.returns-then-not-found
 returns-then-not-found c = λ q.
     let k = known-are _ _ _ _ _ c.known-s.ensures c.known-r.ensures in
-    made_none _ _ _ _ _ _ _ k (c.row_for-v.ensures (ready-is _ _ _ _ k q.first)) _ (flip-true c.if-not-found.true)
+    made_none _ _ _ _ _ _ _ k (c.row_for-v.ensures (ready-is _ _ _ _ k q.first)) _ c.if-not-found.true
 
 pub slice_bounds-language_of-end : goal.slice_bounds-language_of-end
 slice_bounds-language_of-end c = let k = c.cuts_of-c.ensures in sym (length-take-le _ _ (omega arith))
@@ -22,5 +22,5 @@ pub returns : goal.returns
 returns c = λ q.
     let k = known-are _ _ _ _ _ c.known-s.ensures c.known-r.ensures in
     let o = over-are _ _ _ _ _ _ _ c.cuts_of-c.ensures.2 c.language_of.ensures c.first_of.ensures c.first_of-2.ensures in
-    let z = filled-some true _ [] _ _ _ _ k (c.row_for-v.ensures (ready-is _ _ _ _ k q.first)) (flip-false c.if-not-found.false) ∙ ap some (sym o) in
+    let z = filled-some true _ [] _ _ _ _ k (c.row_for-v.ensures (ready-is _ _ _ _ k q.first)) c.if-not-found.false ∙ ap some (sym o) in
     then-given _ _ _ _ (c.finish.ensures (q.again _ z)) (made_some _ _ _ _ _ z)

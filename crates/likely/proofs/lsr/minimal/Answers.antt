@@ -7,13 +7,13 @@ use native.Mathlib.Omega.{arith}
 use Rattle.likely.proofs.lsr.minimal.Goals as goal
 
 pub returns-then-fits : goal.returns-then-fits
-returns-then-fits c = λ q. kept-neither _ _ _ _ (c.fits-2.ensures (ready-language _ _ _ [] refl q)) c.if-fits.true
+returns-then-fits c = λ q. kept-neither _ _ _ _ (c.fits.ensures (ready-language _ _ _ [] refl q)) c.if-fits.true
 
 pub returns-then-fits-2 : goal.returns-then-fits-2
-returns-then-fits-2 c = λ q. kept-region _ _ _ _ (c.fits-2.ensures (ready-language _ _ _ [] refl q)) c.if-fits.false (c.fits-3.ensures (ready-region _ _ _ [] refl q)) c.if-fits-2.true
+returns-then-fits-2 c = λ q. kept-region _ _ _ _ (c.fits.ensures (ready-language _ _ _ [] refl q)) c.if-fits.false (c.fits-2.ensures (ready-region _ _ _ [] refl q)) c.if-fits-2.true
 
 pub returns-then-fits-3 : goal.returns-then-fits-3
-returns-then-fits-3 c = λ q. kept-script _ _ _ _ (c.fits-2.ensures (ready-language _ _ _ [] refl q)) c.if-fits.false (c.fits-3.ensures (ready-region _ _ _ [] refl q)) c.if-fits-2.false (c.before.fits4.ensures (ready-script _ _ _ [] refl q)) c.if-fits-3.true
+returns-then-fits-3 c = λ q. kept-script _ _ _ _ (c.fits.ensures (ready-language _ _ _ [] refl q)) c.if-fits.false (c.fits-2.ensures (ready-region _ _ _ [] refl q)) c.if-fits-2.false (c.fits-3.ensures (ready-script _ _ _ [] refl q)) c.if-fits-3.true
 
 pub returns : goal.returns
-returns c = λ q. kept-both _ _ _ _ (c.fits-2.ensures (ready-language _ _ _ [] refl q)) c.if-fits.false (c.fits-3.ensures (ready-region _ _ _ [] refl q)) c.if-fits-2.false (c.before.fits4.ensures (ready-script _ _ _ [] refl q)) c.if-fits-3.false
+returns c = λ q. kept-both _ _ _ _ (c.fits.ensures (ready-language _ _ _ [] refl q)) c.if-fits.false (c.fits-2.ensures (ready-region _ _ _ [] refl q)) c.if-fits-2.false (c.fits-3.ensures (ready-script _ _ _ [] refl q)) c.if-fits-3.false

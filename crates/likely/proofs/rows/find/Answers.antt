@@ -10,7 +10,7 @@ pub find_key-requires : goal.find_key-requires
 find_key-requires c = leb-true _ _ (sym c.has_room.ensures ∙ c.if-has_room.true)
 
 pub returns-then-has_room : goal.returns-then-has_room
-returns-then-has_room c = ((λ q. c.find_key.ensures.fact q.indexed), (λ q. c.find_key.ensures.fact_2 q.indexed))
+returns-then-has_room c = record { result_value = λ q. c.find_key.ensures.result_value q.indexed; found_after = λ q. c.find_key.ensures.found_after q.indexed }
 
 pub returns : goal.returns
-returns c = no_room _ _ _ c.has_room.ensures c.if-has_room.false
+returns c = let s = no_room _ _ _ c.has_room.ensures c.if-has_room.false in record { result_value = s.0; found_after = s.1 }

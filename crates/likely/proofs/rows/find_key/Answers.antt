@@ -19,4 +19,4 @@ returns c =
     let a = c.args in
     let room : length a.language.now + length a.script.now + length a.region.now ≤ 32 = omega arith in
     let k = put_three blank _ _ _ a.language.now a.script.now a.region.now _ _ _ p₁.ensures.1 p₁.ensures.0 p₂.ensures.1 p₂.ensures.0 p₃.ensures.1 p₃.ensures.0 room refl in
-    ((λ s. value-by _ _ _ _ (c.lookup_hinted.ensures.result_value s) k), (λ s. found-by _ _ _ _ (c.lookup_hinted.ensures.found_after s) k))
+    record { result_value = λ s. value-by _ _ _ _ (c.lookup_hinted.ensures.result_value s) k; found_after = λ s. found-by _ _ _ _ (c.lookup_hinted.ensures.found_after s) k }

@@ -5,19 +5,19 @@ use native.Mathlib.Omega.{arith}
 use Rattle.likely.proofs.rows.find_row.Goals as goal
 
 pub returns-then-there : goal.returns-then-there
-returns-then-there c = says _ _ _ (λ q. row_first _ _ _ _ _ _ (c.find-v.ensures.fact q) (c.find-v.ensures.fact_2 q) c.if-there.true)
+returns-then-there c = let s = says _ _ _ (λ q. row_first _ _ _ _ _ _ (c.find-v.ensures.result_value q) (c.find-v.ensures.found_after q) c.if-there.true) in record { result_value = s.0; found_after = s.1 }
 
 pub returns-then-script-eq0 : goal.returns-then-script-eq0
 returns-then-script-eq0 c =
     let f = c.find-v in
-    says _ _ _ (λ q. row-no-script _ _ _ _ _ _ (f.ensures.0 q) (f.ensures.1 q) c.if-there.false c.if-script-eq0.true _ _ (c.find.ensures.fact (ready-language _ _ _ _ c.if-script-eq0.true q)) (c.find.ensures.fact_2 (ready-language _ _ _ _ c.if-script-eq0.true q)))
+    let s = says _ _ _ (λ q. row-no-script _ _ _ _ _ _ (f.ensures.result_value q) (f.ensures.found_after q) c.if-there.false c.if-script-eq0.true _ _ (c.find.ensures.result_value (ready-language _ _ _ _ c.if-script-eq0.true q)) (c.find.ensures.found_after (ready-language _ _ _ _ c.if-script-eq0.true q))) in record { result_value = s.0; found_after = s.1 }
 
 pub returns-then-region-eq0 : goal.returns-then-region-eq0
 returns-then-region-eq0 c =
     let f = c.find-v in
-    says _ _ _ (λ q. row-no-region _ _ _ _ _ _ (f.ensures.0 q) (f.ensures.1 q) c.if-there.false c.if-region-eq0.true _ _ (c.find-then-region-eq0.ensures.fact (ready-language _ _ _ _ c.if-region-eq0.true q)) (c.find-then-region-eq0.ensures.fact_2 (ready-language _ _ _ _ c.if-region-eq0.true q)))
+    let s = says _ _ _ (λ q. row-no-region _ _ _ _ _ _ (f.ensures.result_value q) (f.ensures.found_after q) c.if-there.false c.if-region-eq0.true _ _ (c.find-then-region-eq0.ensures.result_value (ready-language _ _ _ _ c.if-region-eq0.true q)) (c.find-then-region-eq0.ensures.found_after (ready-language _ _ _ _ c.if-region-eq0.true q))) in record { result_value = s.0; found_after = s.1 }
 
 pub returns : goal.returns
 returns c =
     let f = c.find-v in
-    says _ _ _ (λ q. row-shorter _ _ _ _ _ _ (f.ensures.0 q) (f.ensures.1 q) c.if-there.false _ _ (c.find_shorter.ensures.fact q) (c.find_shorter.ensures.fact_2 q))
+    let s = says _ _ _ (λ q. row-shorter _ _ _ _ _ _ (f.ensures.result_value q) (f.ensures.found_after q) c.if-there.false _ _ (c.find_shorter.ensures.result_value q) (c.find_shorter.ensures.found_after q)) in record { result_value = s.0; found_after = s.1 }

@@ -1,0 +1,50 @@
+-- `aliases::replace::put_replaced` meets its contract. Assumes nothing.
+use native.Mathlib.Omega.{arith}
+use mathlib.Core.Path.{◌≡◌, sym, ap, ◌∙◌}
+use mathlib.Core.List.{List}
+use Prim.Native.Nat.{ℕ, ◌+◌, ◌-◌}
+use lib.ListN.{length, take, drop}
+use lib.Seq.{sets}
+use Rattle.standard.specs.Table.{lookup, rows}
+use Rattle.aliases.specs.Replaced.{replaced_by}
+use Rattle.byte_string.proofs.Stores.{all_from}
+use Rattle.aliases.proofs.Keyed as keys
+use borrow.Author.Rules.{rules}
+use Rattle.aliases.proofs.replace.put_replaced.Goals as goal
+use Rattle.aliases.proofs.replace.put_replaced.Goals.{After-lookup_hinted-value, Else-found, Then-found}
+
+abbrev text : goal.After-lookup_hinted-value → List ℕ
+text c =
+    let a = c.args in
+    replaced_by (lookup (rows a.aliases.now) a.key.now) (drop a.skip a.key.now)
+
+found : (c : goal.Then-found) → c.lookup_hinted-value.result.now ≡ (let a = c.args in replaced_by (lookup (rows a.aliases.now) a.key.now) (drop a.skip a.key.now))
+found c =
+    let sorted = c.requires.1 in
+    c.lookup_hinted-value.ensures.result_value sorted ∙ keys.found-row _ _ _ (sym (c.lookup_hinted-value.ensures.found_after sorted) ∙ c.if-found.true)
+
+not_found : (c : goal.Else-found) → let a = c.args in take (length a.key.now - a.skip) (drop a.skip a.key.now) ≡ (let a = c.args in replaced_by (lookup (rows a.aliases.now) a.key.now) (drop a.skip a.key.now))
+not_found c =
+    all_from c.args.skip c.args.key.now ∙ keys.no_row _ _ _ (sym (c.lookup_hinted-value.ensures.found_after c.requires.1) ∙ c.if-found.false)
+
+pub put-requires : goal.put-requires
+put-requires c =
+    let v = found (goal.at.put-requires c).Then-found in
+    omega (arith, ap length v)
+
+pub returns-then-found : goal.returns-then-found
+returns-then-found c =
+    let a = c.args in
+    let v = found (goal.at.returns-then-found c).Then-found in
+    (c.put.ensures.0 ∙ ap (λ (x : List ℕ). a.at + length x) v, c.put.ensures.1 ∙ ap (sets a.out.now a.at) v)
+
+pub put-requires-2 : goal.put-requires-2
+put-requires-2 c =
+    let v = not_found (goal.at.put-requires-2 c).Else-found in
+    omega (arith, ap length v)
+
+pub returns : goal.returns
+returns c =
+    let a = c.args in
+    let v = not_found (goal.at.returns c).Else-found in
+    (c.put-2.ensures.0 ∙ ap (λ (x : List ℕ). a.at + length x) v, c.put-2.ensures.1 ∙ ap (sets a.out.now a.at) v)

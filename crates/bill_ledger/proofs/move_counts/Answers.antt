@@ -1,0 +1,25 @@
+-- `bill_ledger::move_counts` meets its contract. Assumes nothing.
+use Prim.Native.Nat.{◌≤◌}
+use native.Mathlib.Omega.{arith}
+use Rattle.bill_ledger.specs.Places.{Moving}
+use Rattle.bill_ledger.proofs.Moves.{moving-start, moving-more, moving-end}
+use borrow.Author.Rules.{rules}
+use Rattle.bill_ledger.proofs.move_counts.Goals as goal
+
+pub loop-j-init : goal.loop-j-init
+loop-j-init c = (omega arith, omega arith, moving-start _ _ _)
+
+pub bounds-a-j : goal.bounds-a-j
+bounds-a-j c = omega (arith, c.loop-j.invariant.2.size)
+
+pub bounds-a-j-in-loop-j : goal.bounds-a-j-in-loop-j
+bounds-a-j-in-loop-j c = omega (arith, c.loop-j.invariant.2.size)
+
+pub loop-j-preserved : goal.loop-j-preserved
+loop-j-preserved c =
+    let l = c.loop-j in
+    let a = c.args in
+    (omega arith, omega arith, moving-more a.a.now l.a l.j a.end a.w (omega arith) (omega (arith, l.invariant.2.size)) l.invariant.2)
+
+pub returns : goal.returns
+returns c = moving-end _ _ _ _ _ _ (omega arith) (omega arith) c.loop-j.invariant.2

@@ -1,0 +1,12 @@
+-- `canonical::lsr::after_separator` meets its contract. Assumes nothing.
+use native.Mathlib.Omega.{arith}
+use mathlib.Core.Path.{sym}
+use Rattle.canonical.proofs.Places as places
+use borrow.Author.Rules.{rules}
+use Rattle.canonical.proofs.lsr.after_separator.Goals as goal
+
+pub returns-then-at-end : goal.returns-then-at-end
+returns-then-at-end c = (sym (places.behind _ _ c.if-at-end.true), omega arith)
+
+pub returns : goal.returns
+returns c = (sym (places.at_once _ _ c.if-at-end.false), omega arith)

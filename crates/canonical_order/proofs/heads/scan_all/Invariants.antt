@@ -1,0 +1,15 @@
+-- `canonical_order::heads::scan_all` meets its contract. Assumes nothing.
+use mathlib.Core.Path.{sym, ◌∙◌}
+use Prim.Native.Nat.{◌+◌, ◌-◌, ◌≤◌, ◌<◌}
+use native.Mathlib.Omega.{arith}
+use lib.ListN.{length, length-set}
+use borrow.Author.Rules.{rules}
+use Rattle.canonical_order.proofs.Picks as picks
+use Rattle.canonical_order.proofs.Keyed as keyed
+use Rattle.canonical_order.proofs.heads.scan_all.Given as goal
+
+abbrev pub invariant-loop-at : goal.invariant-loop-at
+invariant-loop-at l = keyed.Judging l.width l.s l.keys l.places l.at l.i
+
+abbrev pub decreases-loop-at : goal.decreases-loop-at
+decreases-loop-at l = length l.s - l.at

@@ -1,0 +1,50 @@
+-- `table_check::check_clash` meets its contract. The invariant: the rows from i on have their shape, and decide. Assumes nothing.
+use borrow.Author.Rules.{rules}
+use native.Mathlib.Omega.{arith}
+use borrow.Author.Tests.{not-true, not-false}
+use mathlib.Core.Path.{◌≡◌, refl, sym, ◌∙◌}
+use Prim.Native.Nat.{◌-◌}
+use lib.ListN.{length, drop}
+use Rattle.standard.specs.Table.{pieces, rows, clash_fault, shape_of, Pass}
+use Rattle.byte_string.proofs.Ends.{Ends, ends}
+use Rattle.row_shapes.specs.Rows.{kind_is}
+use Rattle.table_check.specs.Free.{free_row}
+use Rattle.table_check.proofs.Clashes.{pass-row, clash-here, clash-next, clash-end}
+use Rattle.table_check.proofs.check_clash.Goals as goal
+use Rattle.table_check.proofs.check_clash.Goals.{After-end_of-e}
+
+pub loop-i-init : goal.loop-i-init
+unfolding rows
+loop-i-init c = (c.requires.2, refl)
+
+-- the line's end lies at or after its start, and within the table
+bounds : (c : goal.After-end_of-e) → Ends 10 c.args.t.now c.loop-i.i c.end_of-e.result
+bounds c = ends _ _ _ _ c.end_of-e.ensures (omega arith)
+
+pub free-requires : goal.free-requires
+free-requires c =
+    let p = c.requires in
+    let l = c.loop-i.invariant in
+    let b = bounds (goal.at.free-requires c).After-end_of-e in
+    (p.0, p.1, p.2, b.low, b.high, (pass-row _ _ _ _ c.end_of-e.ensures c.loop-i-test.true l.0).0, c.end_of-e.ensures)
+
+pub returns-then-not-free : goal.returns-then-not-free
+returns-then-not-free c =
+    let l = c.loop-i.invariant in
+    clash-here _ _ _ _ c.end_of-e.ensures c.loop-i-test.true l.0 _ (sym c.free.ensures ∙ c.if-not-free.true) ∙ sym l.1
+
+pub overflow_add-i : goal.overflow_add-i
+overflow_add-i c = omega (arith, bounds (goal.at.overflow_add-i c).After-end_of-e)
+
+pub loop-i-smaller : goal.loop-i-smaller
+loop-i-smaller c = omega (arith, bounds (goal.at.loop-i-smaller c).After-end_of-e)
+
+pub loop-i-preserved : goal.loop-i-preserved
+loop-i-preserved c =
+    let l = c.loop-i.invariant in (
+      (pass-row _ _ _ _ c.end_of-e.ensures c.loop-i-test.true l.0).1,
+      l.1 ∙ clash-next _ _ _ _ c.end_of-e.ensures c.loop-i-test.true l.0 _ (sym c.free.ensures ∙ c.if-not-free.false),
+    )
+
+pub returns : goal.returns
+returns c = clash-end _ _ _ c.loop-i-test.false ∙ sym c.loop-i.invariant.1

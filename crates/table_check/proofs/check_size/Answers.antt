@@ -1,0 +1,14 @@
+-- `table_check::check_size` meets its contract. Assumes nothing.
+use Rattle.standard.specs.Table.{size_fault}
+use Rattle.table_check.proofs.Ordered.{in-none, in_some, small, large}
+use borrow.Author.Rules.{rules}
+use native.Mathlib.Omega.{arith}
+use Rattle.table_check.proofs.check_size.Goals as goal
+
+pub returns-then-t-le32768 : goal.returns-then-t-le32768
+unfolding size_fault
+returns-then-t-le32768 c = in-none _ _ (small _ c.if-t-le32768.true)
+
+pub returns : goal.returns
+unfolding size_fault
+returns c = in_some _ _ 11 0 _ (large _ c.if-t-le32768.false) c.number.ensures

@@ -1,0 +1,38 @@
+-- `table_check::replaced::two_free` meets its contract. Assumes nothing.
+use native.Mathlib.Omega.{arith}
+use mathlib.Core.Path.{sym, ap, ◌∙◌}
+use mathlib.Core.List.{List}
+use Prim.Native.Nat.{ℕ, ◌+◌, ◌-◌}
+use lib.ListN.{length, take, drop}
+use Rattle.standard.specs.Table.{parse}
+use Rattle.byte_string.proofs.Stores.{all_from}
+use Rattle.table_check.specs.Free.{free_three}
+use Rattle.parents.specs.Walk.{ValueOk}
+use Rattle.table_check.proofs.Clashes.{TwoLine, two-line}
+use borrow.Author.Rules.{rules}
+use Rattle.table_check.proofs.replaced.two_free.Goals as goal
+use Rattle.table_check.proofs.replaced.two_free.Goals.{After-end_of-x}
+
+fields : (c : goal.After-end_of-x) → TwoLine c.args.line.now c.end_of-x.result
+fields c = two-line _ _ c.end_of-x.ensures c.requires.1
+
+pub overflow_add-start : goal.overflow_add-start
+overflow_add-start c = omega (arith, (fields (goal.at.overflow_add-start c).After-end_of-x).room)
+
+pub slice_bounds-value_free-count : goal.slice_bounds-value_free-count
+slice_bounds-value_free-count c = omega (arith, (fields (goal.at.slice_bounds-value_free-count c).After-end_of-x).room)
+
+pub slice_bounds-value_free-start : goal.slice_bounds-value_free-start
+slice_bounds-value_free-start c = omega (arith, (fields (goal.at.slice_bounds-value_free-start c).After-end_of-x).room)
+
+pub value_free-requires : goal.value_free-requires
+value_free-requires c =
+    let l = c.args.line.now in
+    let x = c.end_of-x.result in
+    let v : ValueOk (take (length l - (x + 1)) (drop (x + 1) l)) = rw (all_from (x + 1) l) (fields (goal.at.value_free-requires c).After-end_of-x).value in
+    (c.requires.0, v.three)
+
+pub returns : goal.returns
+returns c =
+    let a = c.args in
+    c.value_free.ensures ∙ ap (λ (x : List ℕ). free_three a.a.now (parse x)) (all_from (c.end_of-x.result + 1) a.line.now ∙ sym (fields (goal.at.returns c).After-end_of-x).second)

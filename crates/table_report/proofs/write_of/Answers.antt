@@ -1,0 +1,8 @@
+-- `table_report::write_of` meets its contract. Assumes nothing.
+use Rattle.table_report.proofs.Written as written
+use borrow.Author.Rules.{rules}
+use native.Mathlib.Omega.{arith}
+use Rattle.table_report.proofs.write_of.Goals as goal
+
+pub returns : goal.returns
+returns c = written.line-written _ _ _ _ _ _ _ _ _ _ _ c.put_verdict-at.ensures c.spot_in.ensures.0 c.put_rest.ensures
