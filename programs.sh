@@ -208,17 +208,18 @@ lock() {
 # shows of what rt prints a line for each crate that it proved, with its place among all; of an unchanged one rt says
 # nothing. Of all else, where nothing was built, it shows the end, and the crate that was refused
 progress() {
-    local line crate='' refused='' built='' k at=$SECONDS others=()
+    local line crate='' refused='' built='' k now at=${EPOCHREALTIME/[.,]/} others=()
     while IFS= read -r line; do
         case $line in
         'rt: running '*) built=yes ;;
         'rt: waiting for '*) say "${line#rt: }" ;;
         'crate '*': modules '*) crate=${line#crate } crate=${crate%%:*} ;;
         'logic=proved '*)
+            now=${EPOCHREALTIME/[.,]/}
             for k in "${!on[@]}"; do
-                [ "${on[k]}" != "$crate" ] || say "proving, $((k + 1)) of ${#on[@]}: $crate ($((SECONDS - at)) s)"
+                [ "${on[k]}" != "$crate" ] || say "proving, $((k + 1)) of ${#on[@]}: $crate ($(((now - at) / 1000000)) s)"
             done
-            at=$SECONDS
+            at=$now
             ;;
         'logic=not-proved'*) refused=$crate ;;
         'fn '*': proved' | 'rt: chose '* | 'logic '* | 'statements '* | 'library '* | 'axioms '* | 'linked '* | 'only='*) ;;
@@ -324,22 +325,24 @@ enter_tables() {
 # opens a pipe, for what a process has to say at its end
 open_pipe() { { exec {pipe}<> <(:); } 2>/dev/null || fail "a pipe: $(cause eval 'exec {pipe}<> <(:)')"; }
 
-# runs the program: the digit that it writes to descriptor 3 at its end is the exit status; of SIGPIPE nothing is said
+# runs the program, which has an argument so that its exit status says what it came to. Where nobody reads its output any
+# more that is 141, as by SIGPIPE: nothing is said of it but where that signal is ignored
 run() {
-    local fd digit=''
-    exec 3<&"$pipe" {pipe}<&- || exit 1
+    local fd
+    exec {pipe}<&- || exit 1
     catch
     (
+        exec 3>&-
         for fd in $closed; do exec {fd}>&-; done
         exec "$program" status
     ) <&0 &
     await $!
-    if [ "$status" -gt 128 ]; then
-        [ "$status" -eq 141 ] || say "ended by SIG$(kill -l "$status")"
-        exit "$status"
-    fi
-    ! read -r -t 0 -u 3 || read -r -n 1 -u 3 digit
-    case $digit in [013]) exit "$digit" ;; *) exit 1 ;; esac
+    case $status in
+    0 | 1 | 3) exit "$status" ;;
+    141) [ -z "$(trap -p PIPE)" ] || fail 'standard output: Broken pipe' ;;
+    *) [ "$status" -gt 128 ] || exit 1; say "ended by SIG$(kill -l "$status")" ;;
+    esac
+    exit "$status"
 }
 
 # descriptors that are closed, and closed again for the program: meanwhile a folder, which can't be read or written as a
