@@ -1,6 +1,6 @@
 // Delivery into a lent output: 0 and the result at the front, or 10 where it is too short; a refusal writes nothing.
 ghost use Rattle.std.specs.Prelude.{◌≡◌};
-ghost use Rattle.standard.specs.Delivery.{result, given};
+ghost use Rattle.standard.specs.Delivery.{result as made, given};
 ghost use Rattle.operations.specs.Answer.{answer_of, refused_answer, refused_of};
 
 use byte_string::put;
@@ -18,7 +18,7 @@ pub struct Answer {
 
 // A refusal gives length and steps 0.
 pub fn refuse(number: u8, place: usize, table: u8) -> Answer
-    ensures* { λ r. ⌜ r ≡ refused_answer number place table ⌝ }
+    ensures { result ≡ refused_answer number place table }
 {
     Answer {
         number,
@@ -31,7 +31,7 @@ pub fn refuse(number: u8, place: usize, table: u8) -> Answer
 
 // The refusal of canonicalising.
 pub(crate) fn refused(r: NoForm) -> Answer
-    ensures* { λ a. ⌜ a ≡ refused_of r ⌝ }
+    ensures { result ≡ refused_of r }
 {
     let f = fault_of(r);
     refuse(f.number, f.place, 0)
@@ -39,7 +39,7 @@ pub(crate) fn refused(r: NoForm) -> Answer
 
 // Writes the result at the front of out, where it fits; the bytes behind it stay.
 pub(crate) fn deliver(bytes: &[u8], steps: usize, out: &mut [u8]) -> Answer
-    ensures* { λ r. ⌜ answer_of r out.new ≡ given (result bytes.now steps) out.old ⌝ }
+    ensures { answer_of result out.new ≡ given (made bytes.now steps) out.old }
 {
     let n = bytes.len();
     if out.len() < n {
