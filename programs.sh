@@ -259,7 +259,7 @@ prove() {
     bytes=$(bytes_now) || fail 'find, sort, xargs or cksum failed, so no change would be seen'
     say "proving it and what it rests on, ${#on[@]} crates; unchanged ones stay proved, another takes seconds to minutes"
     ask_rt "$room" || return
-    take 2>/dev/null || fail "$program could not be written"
+    take 2>/dev/null || fail "$program: $(cause take)"
     seen=$(look) || fail 'find or cksum failed, so no change would be seen'
     [ "${seen%%$'\n'*}" = "${before%%$'\n'*}" ] || return 0
     write_stamp "$seen" || fail "$stamp could not be written"
