@@ -1,5 +1,7 @@
 // THE LIBRARY: every operation that a caller may use. Each takes any bytes, and its promise is one equation for every input.
 // Everything that this crate rests on is inner.
+#![tactic(auto)]
+
 ghost use Rattle.std.specs.Prelude.{◌≡◌, []};
 ghost use Rattle.std.proofs.Math.Option.{none};
 ghost use Rattle.standard.specs.Delivery.{given};

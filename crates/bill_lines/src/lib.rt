@@ -1,4 +1,6 @@
 // Public, over lines. A month's usage lines, taken into a bill a piece at a time.
+#![tactic(auto)]
+
 mod key;
 mod line;
 mod piece;

@@ -1,5 +1,7 @@
 // Public. The four functions for a host program in C, over lent bytes, which `c_api_c` exports. An answer is one number: bits
 // 0 to 7 the number, 8 to 15 the table, 16 to 31 the place, 32 to 55 the length, 56 to 63 the steps.
+#![tactic(auto)]
+
 ghost use Rattle.std.specs.Prelude.{◌≡◌, ◌<◌};
 ghost use Rattle.standard.specs.Delivery.{given};
 ghost use Rattle.standard.specs.Make.{canonicalise_made, maximise_made, minimise_made, list_made};

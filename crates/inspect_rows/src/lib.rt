@@ -1,5 +1,7 @@
 // Public, over lines. The rows that the program `inspect` prints: an identifier as asked, what reading reports of it and
 // what that means; over tables also why it would be no key.
+#![tactic(auto)]
+
 ghost use Rattle.std.specs.Prelude.{◌≡◌, ◌++◌, ◌+◌, ◌≤◌, length};
 ghost use Rattle.std.proofs.lemmas.List.Edits.{sets};
 ghost use Rattle.byte_string.specs.Strings.{WritesWithin};

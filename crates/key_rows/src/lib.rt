@@ -1,5 +1,7 @@
 // Public, over lines. The rows of the program `keys`: of each line what was asked, the number and the minimised form.
 // The tables are tested once for a whole piece of lines.
+#![tactic(auto)]
+
 ghost use Rattle.std.specs.Prelude.{◌≡◌, ◌+◌, ◌≤◌, length, take};
 ghost use Rattle.byte_string.specs.Strings.{WritesWithin};
 ghost use Rattle.table.specs.Hints.{Hinted};

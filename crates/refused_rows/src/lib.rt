@@ -1,6 +1,8 @@
 // Public, over lines. The rows of the program `refused`: of each usage line that the bill counts as refused its number, the
 // member, number and place of the refusal, the identifier and the meaning. The tables are tested once for a whole piece of
 // lines.
+#![tactic(auto)]
+
 mod fault;
 mod member;
 mod row;

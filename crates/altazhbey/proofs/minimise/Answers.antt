@@ -1,0 +1,11 @@
+-- `altazhbey::minimise` meets its contract. Assumes nothing.
+use mathlib.Core.Path.{ap, ◌∙◌}
+use Rattle.standard.specs.Delivery.{Made, given}
+use Rattle.operations.proofs.CompleteChecked.{whole-minimised}
+use borrow.Author.Rules.{rules}
+use native.Mathlib.Omega.{arith}
+use Rattle.altazhbey.proofs.minimise.Goals as goal
+
+pub returns : goal.returns
+returns c =
+    c.operation.ensures ∙ ap (λ (m : Made). given m c.args.out.now) (whole-minimised c.args.aliases.now c.args.likely.now c.args.id.now)

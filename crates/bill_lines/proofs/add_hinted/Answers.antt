@@ -1,0 +1,15 @@
+-- `bill_lines::add_hinted` meets its contract. Assumes nothing.
+use Rattle.table.specs.Lines.{lines}
+use Rattle.bill_lines.proofs.Helds.{held_on}
+use borrow.Author.Rules.{rules}
+use native.Mathlib.Omega.{arith}
+use Rattle.bill_lines.proofs.add_hinted.Goals as goal
+
+pub returns : goal.returns
+returns c =
+    let t = c.take_lines in
+    let a = c.args in
+    let u = c.requires.4 in (
+      λ ls h. held_on a.aliases.now a.likely.now ls (lines a.piece.now) a.c a.keys.now a.counts.now h t.result _ _ u.number c.requires.0.passes t.ensures.0 t.ensures.1 (t.ensures.2 ls),
+      t.ensures.1,
+    )

@@ -1,0 +1,11 @@
+-- `c_api::altazhbey_chain` meets its contract. Assumes nothing.
+use Rattle.c_api.proofs.Sizes.{list-small}
+use Rattle.c_api.proofs.Packs.{unpacks}
+use borrow.Author.Rules.{rules}
+use native.Mathlib.Omega.{arith}
+use Rattle.c_api.proofs.altazhbey_chain.Goals as goal
+
+pub returns : goal.returns
+returns c =
+    let a = c.args in
+    unpacks _ c.chain.result c.pack.result _ _ (list-small a.aliases.now a.parents.now a.id.now) c.pack.ensures c.chain.ensures

@@ -1,0 +1,11 @@
+-- `c_api::altazhbey_maximise` meets its contract. Assumes nothing.
+use Rattle.c_api.proofs.Sizes.{maximise-small}
+use Rattle.c_api.proofs.Packs.{unpacks}
+use borrow.Author.Rules.{rules}
+use native.Mathlib.Omega.{arith}
+use Rattle.c_api.proofs.altazhbey_maximise.Goals as goal
+
+pub returns : goal.returns
+returns c =
+    let a = c.args in
+    unpacks _ c.maximise.result c.pack.result _ _ (maximise-small a.aliases.now a.likely.now a.id.now) c.pack.ensures c.maximise.ensures

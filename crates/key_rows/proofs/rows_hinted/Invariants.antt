@@ -1,0 +1,16 @@
+-- `key_rows::rows_hinted` meets its contract. Assumes nothing.
+use native.Mathlib.Omega.{arith}
+use mathlib.Core.Path.{◌≡◌, refl}
+use Prim.Native.Nat.{◌-◌}
+use lib.ListN.{length}
+use borrow.Author.Rules.{rules}
+use Rattle.lines.proofs.Pieces as pieces
+use Rattle.key_rows.specs.Keys.{key_row}
+use Rattle.key_rows.proofs.Laws as laws
+use Rattle.key_rows.proofs.rows_hinted.Given as goal
+
+abbrev pub invariant-loop-at : goal.invariant-loop-at
+invariant-loop-at l = pieces.Going (key_row l.aliases l.likely) 540 l.piece l.initial.out l.out l.at l.len × (length l.form ≡ 256) × (length l.initial.form ≡ 256)
+
+abbrev pub decreases-loop-at : goal.decreases-loop-at
+decreases-loop-at l = length l.piece - l.at

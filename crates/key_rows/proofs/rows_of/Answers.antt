@@ -1,0 +1,16 @@
+-- `key_rows::rows_of` meets its contract. Assumes nothing.
+use native.Mathlib.Omega.{arith}
+use Rattle.operations.proofs.Delivers.{table-good}
+use Rattle.operations.proofs.CompleteChecked.{tested-both}
+use Rattle.key_rows.proofs.Laws as laws
+use borrow.Author.Rules.{rules}
+use Rattle.key_rows.proofs.rows_of.Goals as goal
+
+pub returns-in-Bad : goal.returns-in-Bad
+returns-in-Bad c =
+    let a = c.args in
+    (laws.table-given a.aliases.now a.likely.now a.piece.now a.out.now c.check_likely-v.result c.in-Bad.is c.check_likely-v.ensures, omega arith, omega arith)
+
+pub rows_tested-requires : goal.rows_tested-requires
+rows_tested-requires c =
+    tested-both _ _ (table-good c.check_likely-v.result _ c.check_likely-v.ensures c.in_default.is)

@@ -1,0 +1,10 @@
+-- `refused_rows::put_kept` meets its contract. Assumes nothing.
+use Rattle.refused_rows.specs.Rows.{kept_row}
+use Rattle.std.proofs.Common.{rules}
+use borrow.Author.Rules.{rules}
+use native.Mathlib.Omega.{arith}
+use Rattle.refused_rows.proofs.put_kept.Goals as goal
+
+pub returns : goal.returns
+unfolding kept_row
+returns c = rw c.line_fault-f.ensures at c.put_fault.ensures
