@@ -5,7 +5,7 @@ use mathlib.Core.Bool.{Bool, true, false, ◌||◌}
 use mathlib.Core.List.{List, [], ◌∷◌}
 use mathlib.Core.Option.{none}
 use Prim.Native.Nat.{ℕ}
-use Rattle.standard.specs.Tag.{Tag, same}
+use Rattle.standard.specs.Tag.{Tag}
 use Rattle.standard.specs.Grammar.{size_of, one_size, is_singleton, is_field_key, x_tag, with_tag, grouped}
 use Rattle.standard.specs.Reading.{fault, alone, private_fault, is_x, up_to}
 use Rattle.standard.proofs.General.{bool_cases}

@@ -1,6 +1,6 @@
 -- Sections: subtags, each with its separator before it; a part of an identifier, or of its canonical form.
 -- Assumes nothing.
-use Rattle.std.specs.Prelude.{◌≡◌, List, [], ◌∷◌, ◌++◌, ℕ, ◌+◌}
+use Rattle.std.specs.Prelude.{◌≡◌, List, [], ◌∷◌, ◌++◌, ℕ}
 use Rattle.standard.specs.Tag.{Tag, head_tag}
 use Rattle.standard.specs.Reading.{split, after_first}
 use Rattle.subtag.specs.Subtags.{PlainTag}

@@ -1,5 +1,7 @@
 // For tests and benchmarks only, not shipped: the lookup of one row, the check of the tables, reading and the operations
 // over tested tables, as numbers that a harness can call; the class of a byte; and the words of a number.
+#![tactic(auto)]
+
 pub mod bytes;
 pub mod reads;
 pub mod repeats;

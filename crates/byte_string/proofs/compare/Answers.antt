@@ -1,10 +1,7 @@
 -- `byte_string::compare` meets its contract. Assumes nothing.
-use mathlib.Core.Path.{◌≡◌, sym, ◌∙◌}
-use Prim.Native.Nat.{◌-◌}
-use lib.ListN.{length}
+use mathlib.Core.Path.{sym, ◌∙◌}
 use borrow.Author.Rules.{rules}
-use Rattle.standard.specs.Tag.{order}
-use Rattle.byte_string.proofs.Orders.{order_from, order-start, order-less, order-greater, order_same, order-short, order-long, order-equal}
+use Rattle.byte_string.proofs.Orders.{order-start, order-less, order-greater, order_same, order-short, order-long, order-equal}
 use Rattle.byte_string.proofs.compare.Goals as goal
 
 pub loop-i-init : goal.loop-i-init

@@ -1,10 +1,9 @@
 -- `byte_string::compare` meets its contract. Assumes nothing.
-use mathlib.Core.Path.{◌≡◌, sym, ◌∙◌}
+use mathlib.Core.Path.{◌≡◌}
 use Prim.Native.Nat.{◌-◌}
 use lib.ListN.{length}
-use borrow.Author.Rules.{rules}
 use Rattle.standard.specs.Tag.{order}
-use Rattle.byte_string.proofs.Orders.{order_from, order-start, order-less, order-greater, order_same, order-short, order-long, order-equal}
+use Rattle.byte_string.proofs.Orders.{order_from}
 use Rattle.byte_string.proofs.compare.Given as goal
 
 abbrev pub invariant-loop-i : goal.invariant-loop-i

@@ -1,9 +1,6 @@
 -- `byte_string::end_of` meets its contract. Assumes nothing.
-use mathlib.Core.Path.{◌≡◌, refl, sym, ◌∙◌}
-use Prim.Native.Nat.{◌-◌}
-use lib.ListN.{length}
+use mathlib.Core.Path.{refl, sym, ◌∙◌}
 use borrow.Author.Rules.{rules}
-use Rattle.byte_string.specs.Strings.{end_of}
 use Rattle.byte_string.proofs.Ends.{end-hit, end-miss, end-past}
 use Rattle.byte_string.proofs.end_of.Goals as goal
 

@@ -1,10 +1,8 @@
 -- `byte_string::end_of` meets its contract. Assumes nothing.
-use mathlib.Core.Path.{◌≡◌, refl, sym, ◌∙◌}
+use mathlib.Core.Path.{◌≡◌}
 use Prim.Native.Nat.{◌-◌}
 use lib.ListN.{length}
-use borrow.Author.Rules.{rules}
 use Rattle.byte_string.specs.Strings.{end_of}
-use Rattle.byte_string.proofs.Ends.{end-hit, end-miss, end-past}
 use Rattle.byte_string.proofs.end_of.Given as goal
 
 abbrev pub invariant-loop-i : goal.invariant-loop-i

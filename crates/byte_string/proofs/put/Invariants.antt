@@ -1,10 +1,8 @@
 -- `byte_string::put` meets its contract. Assumes nothing.
-use native.Mathlib.Omega.{arith}
-use mathlib.Core.Path.{◌≡◌, refl, ◌∙◌}
+use mathlib.Core.Path.{◌≡◌}
 use Prim.Native.Nat.{◌-◌, ◌≤◌}
-use lib.ListN.{length, take, length-set}
+use lib.ListN.{length, take}
 use lib.Seq.{sets}
-use Rattle.byte_string.proofs.Stores as stores
 use Rattle.byte_string.proofs.put.Given as goal
 
 abbrev pub invariant-loop-i : goal.invariant-loop-i

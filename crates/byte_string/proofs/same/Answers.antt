@@ -2,7 +2,6 @@
 use mathlib.Core.Path.{ap}
 use Rattle.byte_string.specs.Strings.{order_of}
 use Rattle.byte_string.proofs.Orders.{same-order}
-use borrow.Author.Rules.{rules}
 use Rattle.byte_string.proofs.same.Goals as goal
 
 pub returns-in-Less : goal.returns-in-Less

@@ -53,7 +53,7 @@ loop-at-preserved c =
     let g = l.invariant.0 in
     let p = c.put_row-len in (
       numbered.going_more (line_row c.args.aliases.now c.args.likely.now) 2400 c.args.first c.args.piece.now c.args.out.now l.out _ l.at c.next_line-at.result c.end_of-e.result l.next _ l.len p.result g
-          c.loop-at-test.true c.end_of-e.ensures c.next_line-at.ensures (omega (arith, g.same, g.room)) p.ensures.0 p.ensures.1 p.ensures.2 c.wrapping_add_usize-next.ensures,
+          c.loop-at-test.true c.end_of-e.ensures c.next_line-at.ensures (omega (arith, g.same, g.room)) p.ensures.0 p.ensures.1 p.ensures.2 c.wrapping_add_usize-next.ensures.value,
       search rules,
       l.invariant.2,
     )

@@ -1,7 +1,7 @@
 -- `subtag::class_of` meets its contract: at each return the tests say in which range the byte is. Assumes nothing.
 use native.Mathlib.Omega.{arith}
 use borrow.Author.Rules.{rules}
-use mathlib.Core.Logic.{⊎_elim, inl, inr}
+use mathlib.Core.Logic.{⊎_elim}
 use Rattle.standard.specs.Grammar.{small, capital, digit, separator}
 use Rattle.subtag.specs.Bytes.{class_of}
 use Rattle.subtag.proofs.Bytes.{inside, under, over, no-sep}

@@ -4,7 +4,6 @@ use native.Mathlib.Omega.{arith}
 use Rattle.subtag.specs.Bytes.{is_separator}
 use Rattle.subtag.proofs.Bytes.{by-class, classed}
 use Rattle.subtag.proofs.Scanning as scanning
-use borrow.Author.Rules.{rules}
 use Rattle.subtag.proofs.first_of.Goals as goal
 
 pub returns-then-rest-eq0 : goal.returns-then-rest-eq0

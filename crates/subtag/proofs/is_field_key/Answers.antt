@@ -2,7 +2,6 @@
 use mathlib.Core.Path.{sym, ◌∙◌}
 use mathlib.Core.Bool.{true, false}
 use Rattle.subtag.proofs.Shapes as shapes
-use borrow.Author.Rules.{rules}
 use Rattle.subtag.proofs.is_field_key.Goals as goal
 
 pub returns-then-t-ne2 : goal.returns-then-t-ne2

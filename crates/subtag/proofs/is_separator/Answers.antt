@@ -1,7 +1,6 @@
 -- `subtag::is_separator` meets its contract. Assumes nothing.
 use Rattle.subtag.specs.Bytes.{is_separator}
 use Rattle.subtag.proofs.Bytes.{by-class, classed}
-use borrow.Author.Rules.{rules}
 use Rattle.subtag.proofs.is_separator.Goals as goal
 
 pub returns : goal.returns

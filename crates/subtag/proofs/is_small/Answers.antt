@@ -1,7 +1,6 @@
 -- `subtag::is_small` meets its contract. Assumes nothing.
 use Rattle.subtag.specs.Bytes.{is_small}
 use Rattle.subtag.proofs.Bytes.{by-class, classed}
-use borrow.Author.Rules.{rules}
 use Rattle.subtag.proofs.is_small.Goals as goal
 
 pub returns : goal.returns

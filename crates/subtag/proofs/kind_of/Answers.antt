@@ -3,7 +3,6 @@ use native.Mathlib.Omega.{arith}
 use mathlib.Core.Bool.{true, false}
 use borrow.Author.Tests.{eq-eqb, ne_eqb}
 use Rattle.subtag.proofs.Shapes as shapes
-use borrow.Author.Rules.{rules}
 use Rattle.subtag.proofs.kind_of.Goals as goal
 
 pub returns-then-letters-eq2 : goal.returns-then-letters-eq2

@@ -1,5 +1,4 @@
 -- `subtag::lower` meets its contract. Assumes nothing.
-use borrow.Author.Rules.{rules}
 use Rattle.subtag.proofs.lower.Goals as goal
 
 pub lowered-requires : goal.lowered-requires

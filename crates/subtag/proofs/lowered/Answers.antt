@@ -1,7 +1,6 @@
 -- `subtag::lowered` meets its contract, class by class. Assumes nothing.
 use native.Mathlib.Omega.{arith}
 use Rattle.subtag.proofs.Bytes.{lower-as, capital-high}
-use borrow.Author.Rules.{rules}
 use Rattle.subtag.proofs.lowered.Goals as goal
 
 pub overflow_add-result : goal.overflow_add-result

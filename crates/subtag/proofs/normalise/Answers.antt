@@ -2,7 +2,6 @@
 use mathlib.Core.Path.{sym, ◌∙◌}
 use Rattle.subtag.specs.Bytes.{is_separator}
 use Rattle.subtag.proofs.Bytes.{by-class, classed, normalise-sep, normalise-other}
-use borrow.Author.Rules.{rules}
 use Rattle.subtag.proofs.normalise.Goals as goal
 
 pub returns-then-separates : goal.returns-then-separates

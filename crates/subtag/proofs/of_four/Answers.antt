@@ -2,7 +2,6 @@
 use mathlib.Core.Path.{sym, ◌∙◌}
 use mathlib.Core.Bool.{true, false}
 use Rattle.subtag.proofs.Shapes as shapes
-use borrow.Author.Rules.{rules}
 use Rattle.subtag.proofs.of_four.Goals as goal
 
 pub returns-then-t-eq4 : goal.returns-then-t-eq4

@@ -1,13 +1,10 @@
 -- `subtag::put_cased` meets its contract. Assumes nothing.
-use borrow.Author.Rules.{rules}
-use native.Mathlib.Omega.{arith}
-use mathlib.Core.Path.{◌≡◌, refl, ap, ◌∙◌}
+use mathlib.Core.Path.{◌≡◌}
 use mathlib.Core.List.{map}
-use Prim.Native.Nat.{◌+◌, ◌-◌, ◌≤◌}
-use lib.ListN.{length, take, length-set}
+use Prim.Native.Nat.{◌-◌, ◌≤◌}
+use lib.ListN.{length, take}
 use lib.Seq.{sets}
-use Rattle.subtag.proofs.Cased as cased-laws
-use Rattle.subtag.specs.Bytes.{normal_byte, cased as raised_tag, cased_byte}
+use Rattle.subtag.specs.Bytes.{normal_byte, cased as raised_tag}
 use Rattle.subtag.proofs.put_cased.Given as goal
 
 abbrev pub invariant-loop-i : goal.invariant-loop-i

@@ -1,5 +1,4 @@
 -- `subtag::put_normalised` meets its contract: no byte becomes a capital. Assumes nothing.
-use borrow.Author.Rules.{rules}
 use mathlib.Core.Path.{ap, ◌∙◌}
 use lib.Seq.{sets}
 use Rattle.subtag.proofs.Cased.{cased-none}

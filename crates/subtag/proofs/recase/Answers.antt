@@ -1,6 +1,5 @@
 -- `subtag::recase` meets its contract. Assumes nothing.
 use Rattle.subtag.proofs.Cased as cased-laws
-use borrow.Author.Rules.{rules}
 use Rattle.subtag.proofs.recase.Goals as goal
 
 pub returns-then-i-count : goal.returns-then-i-count

@@ -1,9 +1,6 @@
 -- `subtag::scan` meets its contract. The invariant: what was counted, and what is still to come. Assumes nothing.
-use borrow.Author.Rules.{rules}
 use native.Mathlib.Omega.{arith}
 use mathlib.Core.Path.{sym, ◌∙◌}
-use Prim.Native.Nat.{◌-◌}
-use lib.ListN.{length}
 use Rattle.subtag.proofs.Scanning as scanning
 use Rattle.subtag.proofs.scan.Goals as goal
 

@@ -1,7 +1,6 @@
 -- `subtag::upper` meets its contract, class by class. Assumes nothing.
 use native.Mathlib.Omega.{arith}
 use Rattle.subtag.proofs.Bytes.{upper-as, small_low}
-use borrow.Author.Rules.{rules}
 use Rattle.subtag.proofs.upper.Goals as goal
 
 pub overflow_sub-result : goal.overflow_sub-result

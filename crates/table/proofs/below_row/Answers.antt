@@ -1,11 +1,7 @@
 -- `table::below_row` meets its contract. Assumes nothing.
-use mathlib.Core.Path.{◌≡◌, sym, ◌∙◌}
-use Prim.Native.Nat.{◌-◌, ◌≤◌}
+use mathlib.Core.Path.{sym, ◌∙◌}
 use borrow.Author.Rules.{rules}
-use mathlib.Core.List.{[], ◌∷◌, ◌++◌}
-use Rattle.table.specs.Search.{below}
-use Rattle.table.proofs.Searches.{below_from, below-start, below-short, below_less, below_more, below-same, below_end, below-tab}
-use native.Mathlib.Omega.{arith}
+use Rattle.table.proofs.Searches.{below-start, below-short, below_less, below_more, below-same, below_end, below-tab}
 use Rattle.table.proofs.below_row.Goals as goal
 
 pub loop-i-init : goal.loop-i-init

@@ -1,15 +1,13 @@
 -- `table::find` meets its contract. The invariant: the lines from i on decide. Assumes nothing.
 use borrow.Author.Rules.{rules}
 use native.Mathlib.Omega.{arith}
-use mathlib.Core.Path.{◌≡◌, sym, ◌∙◌}
-use Prim.Native.Nat.{◌+◌, ◌-◌, ◌≤◌}
+use mathlib.Core.Path.{sym, ◌∙◌}
+use Prim.Native.Nat.{◌+◌, ◌≤◌}
 use lib.ListN.{length}
-use Rattle.standard.specs.Table.{located}
-use Rattle.table.specs.Search.{row_from}
 use Rattle.byte_string.proofs.Ends.{Ends, ends}
 use Rattle.table.proofs.Lines.{row-start, row-past, row-miss, row-hit, row_room}
 use Rattle.table.proofs.find.Goals as goal
-use Rattle.table.proofs.find.Goals.{After-end_of-e, Then-starts_row, Then-starts_row,}
+use Rattle.table.proofs.find.Goals.{After-end_of-e, Then-starts_row, Then-starts_row}
 
 pub loop-i-init : goal.loop-i-init
 loop-i-init c = row-start _ _

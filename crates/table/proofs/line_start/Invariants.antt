@@ -1,11 +1,7 @@
 -- `table::line_start` meets its contract. Assumes nothing.
-use mathlib.Core.Path.{◌≡◌, refl, ap, ◌∙◌}
-use Prim.Native.Nat.{◌+◌, ◌-◌, ◌≤◌}
-use native.Mathlib.Omega.{arith}
-use borrow.Author.Rules.{rules}
+use mathlib.Core.Path.{◌≡◌}
+use Prim.Native.Nat.{◌≤◌}
 use Rattle.byte_string.specs.Strings.{end_of}
-use Rattle.byte_string.proofs.Ends.{end-miss}
-use Rattle.table.proofs.Searches.{opens-after}
 use Rattle.table.proofs.line_start.Given as goal
 
 abbrev pub invariant-loop-m : goal.invariant-loop-m

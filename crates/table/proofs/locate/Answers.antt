@@ -1,10 +1,9 @@
 -- `table::locate` meets its contract. Assumes nothing.
 use mathlib.Core.Path.{sym, ◌∙◌}
-use Prim.Native.Nat.{◌-◌, ◌≤◌, ◌<◌}
+use Prim.Native.Nat.{◌≤◌, ◌<◌}
 use native.Mathlib.Omega.{arith}
 use lib.ListN.{length}
 use borrow.Author.Rules.{rules}
-use Rattle.table.specs.Search.{Sorted, Span}
 use Rattle.byte_string.proofs.Ends.{end-le, end_ge}
 use Rattle.table.proofs.Searches.{span-all, probe-below, probe-above, landed}
 use Rattle.table.proofs.locate.Goals as goal
@@ -45,21 +44,19 @@ pub loop-lo-smaller-then-below_row : goal.loop-lo-smaller-then-below_row
 loop-lo-smaller-then-below_row c = omega (arith, ends (goal.at.loop-lo-smaller-then-below_row c).After-end_of-e)
 
 pub loop-lo-preserved-then-below_row : goal.loop-lo-preserved-then-below_row
-loop-lo-preserved-then-below_row c =
-    (
-      search rules,
-      λ s. probe-below _ _ _ _ _ _ _ (c.loop-lo.invariant.1 s) c.loop-lo.invariant.0 c.line_start-m.ensures (omega arith) (c.end_of-e.ensures ∙ sym c.line_start-m.ensures.ends) (sym c.below_row.ensures ∙ c.if-below_row.true),
-    )
+loop-lo-preserved-then-below_row c = (
+  search rules,
+  λ s. probe-below _ _ _ _ _ _ _ (c.loop-lo.invariant.1 s) c.loop-lo.invariant.0 c.line_start-m.ensures (omega arith) (c.end_of-e.ensures ∙ sym c.line_start-m.ensures.ends) (sym c.below_row.ensures ∙ c.if-below_row.true),
+)
 
 pub loop-lo-smaller : goal.loop-lo-smaller
 loop-lo-smaller c = omega (arith, ends (goal.at.loop-lo-smaller c).After-end_of-e)
 
 pub loop-lo-preserved : goal.loop-lo-preserved
-loop-lo-preserved c =
-    (
-      omega (arith, ends (goal.at.loop-lo-preserved c).After-end_of-e),
-      λ s. probe-above _ _ _ _ _ _ _ (c.loop-lo.invariant.1 s) c.loop-lo.invariant.0 c.line_start-m.ensures (omega arith) (c.end_of-e.ensures ∙ sym c.line_start-m.ensures.ends) (sym c.below_row.ensures ∙ c.if-below_row.false),
-    )
+loop-lo-preserved c = (
+  omega (arith, ends (goal.at.loop-lo-preserved c).After-end_of-e),
+  λ s. probe-above _ _ _ _ _ _ _ (c.loop-lo.invariant.1 s) c.loop-lo.invariant.0 c.line_start-m.ensures (omega arith) (c.end_of-e.ensures ∙ sym c.line_start-m.ensures.ends) (sym c.below_row.ensures ∙ c.if-below_row.false),
+)
 
 pub returns : goal.returns
 returns c = λ s. landed _ _ _ _ (c.loop-lo.invariant.1 s) c.loop-lo-test.false

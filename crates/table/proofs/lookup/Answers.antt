@@ -1,7 +1,5 @@
 -- `table::lookup` meets its contract. Assumes nothing.
 use Rattle.table.proofs.Lines.{cut-value, cut-found}
-use borrow.Author.Rules.{rules}
-use native.Mathlib.Omega.{arith}
 use Rattle.table.proofs.lookup.Goals as goal
 
 pub returns : goal.returns

@@ -1,7 +1,6 @@
 -- `table::lookup_sorted` meets its contract. Assumes nothing.
 use native.Mathlib.Omega.{arith}
 use Rattle.table.proofs.Lines.{cut-value, cut-found}
-use borrow.Author.Rules.{rules}
 use Rattle.table.proofs.lookup_sorted.Goals as goal
 
 pub returns : goal.returns

@@ -1,12 +1,10 @@
 -- `table::starts_row` meets its contract. The loop's invariant: what is left to compare from i on decides.
 -- Assumes nothing.
-use mathlib.Core.Path.{◌≡◌, refl, sym, ◌∙◌}
-use mathlib.Core.List.{[], ◌∷◌, ◌++◌}
-use Prim.Native.Nat.{◌-◌, ◌≤◌}
+use mathlib.Core.Path.{refl, sym, ◌∙◌}
+use mathlib.Core.List.{[], ◌∷◌}
 use native.Mathlib.Omega.{arith}
-use lib.ListN.{drop, length-append}
+use lib.ListN.{length-append}
 use borrow.Author.Rules.{rules}
-use Rattle.table.specs.Lines.{starts}
 use Rattle.table.proofs.Lines.{starts-short, starts-same, starts_other, starts-last}
 use Rattle.table.proofs.starts_row.Goals as goal
 

@@ -1,13 +1,10 @@
 -- `table::starts_row` meets its contract. The loop's invariant: what is left to compare from i on decides.
 -- Assumes nothing.
-use mathlib.Core.Path.{◌≡◌, refl, sym, ◌∙◌}
+use mathlib.Core.Path.{◌≡◌}
 use mathlib.Core.List.{[], ◌∷◌, ◌++◌}
 use Prim.Native.Nat.{◌-◌, ◌≤◌}
-use native.Mathlib.Omega.{arith}
-use lib.ListN.{drop, length-append}
-use borrow.Author.Rules.{rules}
+use lib.ListN.{drop}
 use Rattle.table.specs.Lines.{starts}
-use Rattle.table.proofs.Lines.{starts-short, starts-same, starts_other, starts-last}
 use Rattle.table.proofs.starts_row.Given as goal
 
 abbrev pub invariant-loop-i : goal.invariant-loop-i

@@ -2,7 +2,6 @@
 use mathlib.Core.Path.{refl}
 use native.Mathlib.Omega.{arith}
 use Rattle.table.proofs.Hinting.{blank_of, place-few}
-use borrow.Author.Rules.{rules}
 use Rattle.table.proofs.hints.few.Goals as goal
 
 pub returns : goal.returns

@@ -1,11 +1,8 @@
 -- `table::hints::fill_hints` meets its contract. The hints are right for the keys that end before i. Assumes nothing.
-use mathlib.Core.Path.{◌≡◌, refl, ap, ◌∙◌}
-use native.Mathlib.Omega.{arith}
+use mathlib.Core.Path.{◌≡◌}
 use Prim.Native.Nat.{◌-◌, ◌<◌}
 use lib.ListN.{length}
-use Rattle.table.specs.Hints.{place_of}
-use Rattle.table.proofs.Hinting.{Filled, room-same, fill_start, fill-next, fill-quick, fill_done, past-length}
-use borrow.Author.Rules.{rules}
+use Rattle.table.proofs.Hinting.{Filled}
 use Rattle.table.proofs.hints.fill_hints.Given as goal
 
 abbrev pub invariant-loop-i : goal.invariant-loop-i

@@ -1,7 +1,5 @@
 -- `table::hints::find_hinted` meets its contract. Assumes nothing.
 use Rattle.table.proofs.Hinting.{leads-at}
-use native.Mathlib.Omega.{arith}
-use borrow.Author.Rules.{rules}
 use Rattle.table.proofs.hints.find_hinted.Goals as goal
 
 pub returns : goal.returns

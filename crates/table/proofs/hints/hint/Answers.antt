@@ -1,7 +1,5 @@
 -- `table::hints::hint` meets its contract. Assumes nothing.
-use native.Mathlib.Omega.{arith}
 use Rattle.table.proofs.Hinting.{hint-missing, hint-there}
-use borrow.Author.Rules.{rules}
 use Rattle.table.proofs.hints.hint.Goals as goal
 
 pub returns-then-hints-at : goal.returns-then-hints-at

@@ -1,7 +1,5 @@
 -- `table::hints::hint_of` meets its contract. Assumes nothing.
 use Rattle.table.proofs.Hinting.{hint-far, hint-new, hint-second, hint-more}
-use borrow.Author.Rules.{rules}
-use native.Mathlib.Omega.{arith}
 use Rattle.table.proofs.hints.hint_of.Goals as goal
 
 pub returns-then-place-gt32766 : goal.returns-then-place-gt32766

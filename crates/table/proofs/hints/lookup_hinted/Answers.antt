@@ -1,7 +1,5 @@
 -- `table::hints::lookup_hinted` meets its contract. Assumes nothing.
 use Rattle.table.proofs.Lines.{cut-value, cut-found}
-use borrow.Author.Rules.{rules}
-use native.Mathlib.Omega.{arith}
 use Rattle.table.proofs.hints.lookup_hinted.Goals as goal
 
 pub returns : goal.returns

@@ -1,7 +1,6 @@
 -- `table::hints::many` meets its contract. Assumes nothing.
 use native.Mathlib.Omega.{arith}
 use Rattle.table.proofs.Hinting.{blank_of, place-many}
-use borrow.Author.Rules.{rules}
 use Rattle.table.proofs.hints.many.Goals as goal
 
 pub returns : goal.returns

@@ -2,8 +2,6 @@
 use borrow.Author.Tests.{ne_eqb}
 use Rattle.table.specs.Hints.{hints_past}
 use Rattle.table.proofs.Hinting.{mark-tab}
-use borrow.Author.Rules.{rules}
-use native.Mathlib.Omega.{arith}
 use Rattle.table.proofs.hints.mark.Goals as goal
 
 pub returns-then-b-eq9 : goal.returns-then-b-eq9

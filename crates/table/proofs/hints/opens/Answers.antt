@@ -1,7 +1,5 @@
 -- `table::hints::opens` meets its contract. Assumes nothing.
 use Rattle.table.proofs.Hinting.{opens-past, opens-front, opens_at}
-use borrow.Author.Rules.{rules}
-use native.Mathlib.Omega.{arith}
 use Rattle.table.proofs.hints.opens.Goals as goal
 
 pub returns-then-t-p : goal.returns-then-t-p

@@ -1,7 +1,5 @@
 -- `table::hints::place_of` meets its contract. Assumes nothing.
 use Rattle.table.proofs.Hinting.{place-few, place-many}
-use borrow.Author.Rules.{rules}
-use native.Mathlib.Omega.{arith}
 use Rattle.table.proofs.hints.place_of.Goals as goal
 
 pub returns-then-n-eq1024 : goal.returns-then-n-eq1024

@@ -4,12 +4,10 @@ use native.Mathlib.Omega.{arith}
 use mathlib.Core.Bool.{true}
 use Prim.Native.Nat.{◌+◌, ◌≤◌}
 use lib.ListN.{length}
-use borrow.Author.Tests.{not-true, not-false}
 use Rattle.table.specs.Hints.{OpensIs}
 use Rattle.byte_string.proofs.Ends.{Ends, ends}
 use Rattle.table.proofs.Lines.{row_room}
 use Rattle.table.proofs.Hinting.{seen_none, seen-miss, seen-hit}
-use borrow.Author.Rules.{rules}
 use Rattle.table.proofs.hints.row_at.Goals as goal
 use Rattle.table.proofs.hints.row_at.Goals.{After-end_of-e, Then-starts_row}
 

@@ -1,11 +1,6 @@
 -- `table::hints::slot_from` meets its contract. Assumes nothing.
-use mathlib.Core.Path.{◌≡◌, refl, sym, ◌∙◌}
-use Prim.Native.Nat.{◌-◌, ◌<◌}
-use lib.ListN.{length, drop}
-use Rattle.table.specs.Hints.{slot_from}
+use mathlib.Core.Path.{refl, sym, ◌∙◌}
 use Rattle.table.proofs.Hinting.{slot-end, slot_next}
-use borrow.Author.Rules.{rules}
-use native.Mathlib.Omega.{arith}
 use Rattle.table.proofs.hints.slot_from.Goals as goal
 
 pub loop-i-init : goal.loop-i-init

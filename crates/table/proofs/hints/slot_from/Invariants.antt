@@ -1,11 +1,8 @@
 -- `table::hints::slot_from` meets its contract. Assumes nothing.
-use mathlib.Core.Path.{◌≡◌, refl, sym, ◌∙◌}
+use mathlib.Core.Path.{◌≡◌}
 use Prim.Native.Nat.{◌-◌, ◌<◌}
 use lib.ListN.{length, drop}
 use Rattle.table.specs.Hints.{slot_from}
-use Rattle.table.proofs.Hinting.{slot-end, slot_next}
-use borrow.Author.Rules.{rules}
-use native.Mathlib.Omega.{arith}
 use Rattle.table.proofs.hints.slot_from.Given as goal
 
 abbrev pub invariant-loop-i : goal.invariant-loop-i

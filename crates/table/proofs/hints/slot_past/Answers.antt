@@ -2,7 +2,6 @@
 use native.Mathlib.Omega.{arith}
 use borrow.Author.Tests.{eq-eqb, ne_eqb}
 use Rattle.table.specs.Hints.{slot_past}
-use borrow.Author.Rules.{rules}
 use Rattle.table.proofs.hints.slot_past.Goals as goal
 
 pub returns-then-b-eq10 : goal.returns-then-b-eq10

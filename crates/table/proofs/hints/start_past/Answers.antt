@@ -1,8 +1,6 @@
 -- `table::hints::start_past` meets its contract. Assumes nothing.
 use borrow.Author.Tests.{eq-eqb, ne_eqb}
 use Rattle.table.specs.Hints.{start_past}
-use borrow.Author.Rules.{rules}
-use native.Mathlib.Omega.{arith}
 use Rattle.table.proofs.hints.start_past.Goals as goal
 
 pub returns-then-b-eq10 : goal.returns-then-b-eq10

@@ -2,7 +2,6 @@
 use native.Mathlib.Omega.{arith}
 use mathlib.Core.Path.{refl}
 use Rattle.table.specs.Hints.{slot_step}
-use borrow.Author.Rules.{rules}
 use Rattle.table.proofs.hints.step.Goals as goal
 
 pub returns : goal.returns

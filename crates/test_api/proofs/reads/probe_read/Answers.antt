@@ -1,0 +1,17 @@
+-- `test_api::reads::probe_read` meets its contract. Assumes nothing.
+use mathlib.Core.Path.{◌≡◌}
+use Prim.Native.Nat.{◌-◌, ◌≤◌}
+use native.Mathlib.Omega.{arith}
+use borrow.Author.Rules.{rules}
+use Rattle.standard.specs.Report.{report}
+use Rattle.test_api.specs.Codes.{report_code}
+use Rattle.test_api.proofs.reads.probe_read.Goals as goal
+
+pub loop-k-init : goal.loop-k-init
+loop-k-init c = (c.read_once-r.ensures, omega arith)
+
+pub loop-k-preserved : goal.loop-k-preserved
+loop-k-preserved c = (c.read_once-r-in-loop-k.ensures, omega arith)
+
+pub returns : goal.returns
+returns c = c.loop-k.invariant.0
