@@ -1,14 +1,9 @@
 -- `row_shapes::check_rows` meets its contract. The invariant: the rows from i on, behind the key t[p..k], decide. Assumes nothing.
-use borrow.Author.Rules.{rules}
 use native.Mathlib.Omega.{arith}
 use borrow.Author.Tests.{not-true, not-false}
-use mathlib.Core.Path.{◌≡◌, sym, ◌∙◌}
-use mathlib.Core.Option.{none}
+use mathlib.Core.Path.{sym, ◌∙◌}
 use mathlib.Core.List.{[]}
-use Prim.Native.Nat.{◌+◌, ◌-◌, ◌≤◌, ◌<◌}
-use lib.ListN.{length, take, drop}
-use Rattle.standard.specs.Table.{pieces, rows, rows_fault, shape_of}
-use Rattle.row_shapes.specs.Rows.{kind_is}
+use Prim.Native.Nat.{◌+◌, ◌<◌}
 use Rattle.row_shapes.proofs.Passes as passes
 use Rattle.row_shapes.proofs.Texts.{RowIn, row_in, row-off, next_row}
 use Rattle.row_shapes.proofs.check_rows.Goals as goal

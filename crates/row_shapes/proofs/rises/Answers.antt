@@ -2,8 +2,6 @@
 use mathlib.Core.Path.{ap}
 use Rattle.byte_string.specs.Strings.{order_of}
 use Rattle.row_shapes.proofs.Passes.{rises-is}
-use borrow.Author.Rules.{rules}
-use native.Mathlib.Omega.{arith}
 use Rattle.row_shapes.proofs.rises.Goals as goal
 
 pub returns-in-Less : goal.returns-in-Less

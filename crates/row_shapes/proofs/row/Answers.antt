@@ -1,7 +1,5 @@
 -- `row_shapes::row` meets its contract. Assumes nothing.
-use borrow.Author.Rules.{rules}
 use Rattle.row_shapes.proofs.Texts.{line_as}
-use native.Mathlib.Omega.{arith}
 use Rattle.row_shapes.proofs.row.Goals as goal
 
 pub returns-in-Aliases : goal.returns-in-Aliases

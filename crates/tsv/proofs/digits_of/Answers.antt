@@ -1,7 +1,6 @@
 -- `tsv::digits_of` meets its contract. Assumes nothing.
 use native.Mathlib.Omega.{arith}
 use mathlib.Core.Path.{refl}
-use borrow.Author.Rules.{rules}
 use Rattle.tsv.proofs.Laws as laws
 use Rattle.tsv.proofs.digits_of.Goals as goal
 

@@ -1,7 +1,5 @@
 -- `tsv::put` meets its contract. Assumes nothing.
 use Rattle.tsv.proofs.Laws as laws
-use borrow.Author.Rules.{rules}
-use native.Mathlib.Omega.{arith}
 use Rattle.tsv.proofs.put.Goals as goal
 
 pub returns : goal.returns

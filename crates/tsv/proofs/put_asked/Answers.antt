@@ -3,7 +3,6 @@ use native.Mathlib.Omega.{arith}
 use mathlib.Core.Path.{ap}
 use lib.ListN.{length}
 use Rattle.tsv.proofs.Laws as laws
-use borrow.Author.Rules.{rules}
 use Rattle.tsv.proofs.put_asked.Goals as goal
 
 pub returns-then-number-eq2 : goal.returns-then-number-eq2

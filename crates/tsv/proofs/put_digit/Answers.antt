@@ -2,7 +2,6 @@
 use native.Mathlib.Omega.{arith}
 use lib.ListN.{length-set}
 use Rattle.tsv.proofs.Laws as laws
-use borrow.Author.Rules.{rules}
 use Rattle.tsv.proofs.put_digit.Goals as goal
 
 pub bounds-out-at-2 : goal.bounds-out-at-2

@@ -1,7 +1,5 @@
 -- `tsv::put_from` meets its contract. Assumes nothing.
 use Rattle.byte_string.proofs.Stores.{all_from}
-use borrow.Author.Rules.{rules}
-use native.Mathlib.Omega.{arith}
 use Rattle.tsv.proofs.put_from.Goals as goal
 
 pub returns : goal.returns

@@ -3,7 +3,6 @@ use native.Mathlib.Omega.{arith}
 use Rattle.tsv.proofs.Laws.{field-length}
 use Rattle.tsv.proofs.Showing as laws
 use Rattle.standard.specs.Tag.{text}
-use borrow.Author.Rules.{rules}
 use Rattle.tsv.proofs.put_shown.Goals as goal
 
 pub returns-then-src-eq0 : goal.returns-then-src-eq0

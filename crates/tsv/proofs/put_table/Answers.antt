@@ -1,7 +1,6 @@
 -- `tsv::put_table` meets its contract. Assumes nothing.
 use native.Mathlib.Omega.{arith}
 use Rattle.tsv.proofs.Laws as laws
-use borrow.Author.Rules.{rules}
 use Rattle.tsv.proofs.put_table.Goals as goal
 
 pub put_number-q-requires : goal.put_number-q-requires

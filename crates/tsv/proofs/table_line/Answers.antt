@@ -6,7 +6,6 @@ use mathlib.Core.List.{List}
 use Prim.Native.Nat.{ℕ}
 use lib.ListN.{take}
 use Rattle.tsv.specs.Fields.{text_is}
-use borrow.Author.Rules.{rules}
 use Rattle.tsv.proofs.table_line.Goals as goal
 
 pub returns : goal.returns

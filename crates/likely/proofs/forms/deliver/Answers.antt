@@ -1,7 +1,5 @@
 -- `likely::forms::deliver` meets its contract. Assumes nothing.
 use Rattle.likely.proofs.Delivered.{given-long, given-short, given-done, room-four, over, upto}
-use borrow.Author.Rules.{rules}
-use native.Mathlib.Omega.{arith}
 use Rattle.likely.proofs.forms.deliver.Goals as goal
 
 pub returns-then-n-gt255 : goal.returns-then-n-gt255

@@ -1,10 +1,7 @@
 -- `likely::forms::finish` meets its contract. Assumes nothing.
 use Rattle.likely.specs.Kept.{kept_parts}
 use Rattle.likely.specs.declared.lsr.Kept.TheVariants.{Neither, Region, Script, Both}
-use Rattle.likely.proofs.Lookups.{flip-true, flip-false}
 use Rattle.likely.proofs.Delivered.{made-whole, made-long, made_kept, kept-is, then-given, over, upto}
-use borrow.Author.Rules.{rules}
-use native.Mathlib.Omega.{arith}
 use Rattle.likely.proofs.forms.finish.Goals as goal
 
 pub returns-then-not-shorten : goal.returns-then-not-shorten

@@ -5,9 +5,7 @@ use mathlib.Core.List.{[]}
 use mathlib.Core.Option.{some}
 use native.Mathlib.Omega.{arith}
 use lib.Seq.{length-take-le}
-use Rattle.likely.proofs.Lookups.{flip-true, flip-false}
 use Rattle.likely.proofs.Delivered.{known-are, ready-is, made_none, over-are, filled-some, made_some, then-given}
-use borrow.Author.Rules.{rules}
 use Rattle.likely.proofs.forms.form_by_parts.Goals as goal
 
 pub returns-then-not-found : goal.returns-then-not-found

@@ -1,7 +1,5 @@
 -- `likely::forms::length_of` meets its contract. Assumes nothing.
 use Rattle.likely.proofs.Delivered.{long-1, long-2, long-3, long-4, long-form, short-form}
-use borrow.Author.Rules.{rules}
-use native.Mathlib.Omega.{arith}
 use Rattle.likely.proofs.forms.length_of.Goals as goal
 
 pub returns-then-language-gt255 : goal.returns-then-language-gt255

@@ -1,7 +1,5 @@
 -- `likely::forms::put_form` meets its contract. Assumes nothing.
 use Rattle.likely.proofs.Delivered.{put_four}
-use borrow.Author.Rules.{rules}
-use native.Mathlib.Omega.{arith}
 use Rattle.likely.proofs.forms.put_form.Goals as goal
 
 pub returns : goal.returns

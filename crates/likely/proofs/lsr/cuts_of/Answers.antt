@@ -1,7 +1,5 @@
 -- `likely::lsr::cuts_of` meets its contract. Assumes nothing.
 use Rattle.likely.proofs.Lookups.{cut_short, cut-long}
-use borrow.Author.Rules.{rules}
-use native.Mathlib.Omega.{arith}
 use Rattle.likely.proofs.lsr.cuts_of.Goals as goal
 
 pub returns-then-v-a : goal.returns-then-v-a

@@ -1,7 +1,5 @@
 -- `likely::lsr::fits` meets its contract. Assumes nothing.
-use Rattle.likely.proofs.Lookups.{flip-true, flip-false, misfit-row, misfit-script, fit-region, script-cut, region-cut}
-use borrow.Author.Rules.{rules}
-use native.Mathlib.Omega.{arith}
+use Rattle.likely.proofs.Lookups.{misfit-row, misfit-script, fit-region, script-cut, region-cut}
 use Rattle.likely.proofs.lsr.fits.Goals as goal
 
 pub returns-then-not-found : goal.returns-then-not-found

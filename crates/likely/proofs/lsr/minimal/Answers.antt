@@ -2,8 +2,6 @@
 use mathlib.Core.Path.{refl}
 use mathlib.Core.List.{[]}
 use Rattle.likely.proofs.Lookups.{ready-language, ready-region, ready-script, kept-neither, kept-region, kept-script, kept-both}
-use borrow.Author.Rules.{rules}
-use native.Mathlib.Omega.{arith}
 use Rattle.likely.proofs.lsr.minimal.Goals as goal
 
 pub returns-then-fits : goal.returns-then-fits

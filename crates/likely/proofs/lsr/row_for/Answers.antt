@@ -1,7 +1,5 @@
 -- `likely::lsr::row_for` meets its contract. Assumes nothing.
 use Rattle.likely.proofs.Lookups.{filled-whole, filled_row}
-use borrow.Author.Rules.{rules}
-use native.Mathlib.Omega.{arith}
 use Rattle.likely.proofs.lsr.row_for.Goals as goal
 
 pub returns-then-is_complete : goal.returns-then-is_complete

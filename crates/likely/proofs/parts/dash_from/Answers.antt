@@ -1,11 +1,7 @@
 -- `likely::parts::dash_from` meets its contract. Assumes nothing.
 use Rattle.likely.proofs.Lookups.{dash-here, dash-more, dash-off}
-use mathlib.Core.Path.{◌≡◌, refl, sym, ◌∙◌}
-use Prim.Native.Nat.{◌-◌}
+use mathlib.Core.Path.{refl, sym, ◌∙◌}
 use native.Mathlib.Omega.{arith}
-use lib.ListN.{length}
-use Rattle.likely.specs.Parts.{dash}
-use borrow.Author.Rules.{rules}
 use Rattle.likely.proofs.parts.dash_from.Goals as goal
 
 pub loop-i-init : goal.loop-i-init

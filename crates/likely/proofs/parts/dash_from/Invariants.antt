@@ -1,11 +1,8 @@
 -- `likely::parts::dash_from` meets its contract. Assumes nothing.
-use Rattle.likely.proofs.Lookups.{dash-here, dash-more, dash-off}
-use mathlib.Core.Path.{◌≡◌, refl, sym, ◌∙◌}
+use mathlib.Core.Path.{◌≡◌}
 use Prim.Native.Nat.{◌-◌}
-use native.Mathlib.Omega.{arith}
 use lib.ListN.{length}
 use Rattle.likely.specs.Parts.{dash}
-use borrow.Author.Rules.{rules}
 use Rattle.likely.proofs.parts.dash_from.Given as goal
 
 abbrev pub invariant-loop-i : goal.invariant-loop-i

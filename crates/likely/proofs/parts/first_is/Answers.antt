@@ -1,7 +1,5 @@
 -- `likely::parts::first_is` meets its contract. Assumes nothing.
 use Rattle.likely.proofs.Lookups.{other-is, first-is-same}
-use borrow.Author.Rules.{rules}
-use native.Mathlib.Omega.{arith}
 use Rattle.likely.proofs.parts.first_is.Goals as goal
 
 pub returns-then-first-eq0 : goal.returns-then-first-eq0

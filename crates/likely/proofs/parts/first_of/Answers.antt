@@ -1,7 +1,6 @@
 -- `likely::parts::first_of` meets its contract. Assumes nothing.
 use native.Mathlib.Omega.{arith}
 use Rattle.likely.proofs.Lookups.{pick-none, pick_some}
-use borrow.Author.Rules.{rules}
 use Rattle.likely.proofs.parts.first_of.Goals as goal
 
 pub returns-then-first-eq0 : goal.returns-then-first-eq0

@@ -1,7 +1,6 @@
 -- `likely::parts::is_complete` meets its contract. Assumes nothing.
 use native.Mathlib.Omega.{arith}
 use Rattle.likely.proofs.Lookups.{no-language, no-script, by-region}
-use borrow.Author.Rules.{rules}
 use Rattle.likely.proofs.parts.is_complete.Goals as goal
 
 pub returns-then-same : goal.returns-then-same

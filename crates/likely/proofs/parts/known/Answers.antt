@@ -1,7 +1,5 @@
 -- `likely::parts::known` meets its contract. Assumes nothing.
 use Rattle.likely.proofs.Lookups.{known-gone, known_kept}
-use borrow.Author.Rules.{rules}
-use native.Mathlib.Omega.{arith}
 use Rattle.likely.proofs.parts.known.Goals as goal
 
 pub returns-then-same : goal.returns-then-same

@@ -1,7 +1,5 @@
 -- `likely::parts::language_of` meets its contract. Assumes nothing.
 use Rattle.likely.proofs.Lookups.{language-other, language-kept}
-use borrow.Author.Rules.{rules}
-use native.Mathlib.Omega.{arith}
 use Rattle.likely.proofs.parts.language_of.Goals as goal
 
 pub returns-then-same : goal.returns-then-same

@@ -5,7 +5,6 @@ use lib.ListN.{length}
 use native.Mathlib.Omega.{arith}
 use lib.Seq.{length-take-le}
 use Rattle.likely.proofs.Lookups.{blank, put_three, value-by, found-by}
-use borrow.Author.Rules.{rules}
 use Rattle.likely.proofs.rows.find_key.Goals as goal
 
 pub slice_bounds-lookup_hinted-end : goal.slice_bounds-lookup_hinted-end

@@ -1,7 +1,5 @@
 -- `likely::rows::find_row` meets its contract. Assumes nothing.
 use Rattle.likely.proofs.Lookups.{ready-language, says, row_first, row-no-script, row-no-region, row-shorter}
-use borrow.Author.Rules.{rules}
-use native.Mathlib.Omega.{arith}
 use Rattle.likely.proofs.rows.find_row.Goals as goal
 
 pub returns-then-there : goal.returns-then-there

@@ -3,8 +3,6 @@ use mathlib.Core.Path.{refl}
 use mathlib.Core.Bool.{false}
 use mathlib.Core.List.{[]}
 use Rattle.likely.proofs.Lookups.{ready-script, ready-region, ready-language, says, shorter-first, shorter-second, shorter-third}
-use borrow.Author.Rules.{rules}
-use native.Mathlib.Omega.{arith}
 use Rattle.likely.proofs.rows.find_shorter.Goals as goal
 
 pub returns-then-first : goal.returns-then-first

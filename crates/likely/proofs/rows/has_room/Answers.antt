@@ -1,7 +1,5 @@
 -- `likely::rows::has_room` meets its contract. Assumes nothing.
 use Rattle.likely.proofs.Lookups.{long-language, long-script, long-region}
-use borrow.Author.Rules.{rules}
-use native.Mathlib.Omega.{arith}
 use Rattle.likely.proofs.rows.has_room.Goals as goal
 
 pub returns-then-language-gt32 : goal.returns-then-language-gt32

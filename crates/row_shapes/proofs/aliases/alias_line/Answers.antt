@@ -3,7 +3,6 @@ use native.Mathlib.Omega.{arith}
 use Prim.Native.Nat.{◌+◌}
 use Rattle.byte_string.proofs.Ends.{Ends, ends}
 use Rattle.row_shapes.proofs.Texts.{no-alias, alias-no-tab, alias-one-tab, alias-two-tabs}
-use borrow.Author.Rules.{rules}
 use Rattle.row_shapes.proofs.aliases.alias_line.Goals as goal
 use Rattle.row_shapes.proofs.aliases.alias_line.Goals.{After-end_of-tab}
 

@@ -1,8 +1,6 @@
 -- `row_shapes::aliases::alias_shape` meets its contract, kind by kind. Assumes nothing.
 use mathlib.Core.Path.{sym, ◌∙◌}
 use Rattle.row_shapes.proofs.Tests as judges
-use borrow.Author.Rules.{rules}
-use native.Mathlib.Omega.{arith}
 use Rattle.row_shapes.proofs.aliases.alias_shape.Goals as goal
 
 pub returns-then-is_script : goal.returns-then-is_script

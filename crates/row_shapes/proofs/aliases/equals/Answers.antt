@@ -1,7 +1,5 @@
 -- `row_shapes::aliases::equals` meets its contract. Assumes nothing.
 use Rattle.row_shapes.proofs.Tests.{lengths_differ}
-use borrow.Author.Rules.{rules}
-use native.Mathlib.Omega.{arith}
 use Rattle.row_shapes.proofs.aliases.equals.Goals as goal
 
 pub returns-then-a-b : goal.returns-then-a-b

@@ -2,8 +2,6 @@
 use mathlib.Core.Path.{sym, ◌∙◌}
 use mathlib.Core.Bool.{true, false}
 use Rattle.row_shapes.proofs.Tests.{named-language, named-script, named-region, named-variant}
-use borrow.Author.Rules.{rules}
-use native.Mathlib.Omega.{arith}
 use Rattle.row_shapes.proofs.aliases.kind_named.Goals as goal
 
 pub returns-then-equals : goal.returns-then-equals

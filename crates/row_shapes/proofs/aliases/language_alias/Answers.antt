@@ -1,10 +1,7 @@
 -- `row_shapes::aliases::language_alias` meets its contract. Assumes nothing.
-use native.Mathlib.Omega.{arith}
 use borrow.Author.Tests.{not-true, not-false}
 use mathlib.Core.Path.{sym, ◌∙◌}
-use lib.Seq.{length-take-le}
 use Rattle.row_shapes.proofs.Tests.{alias-key, alias-und, alias-no-three, alias-three}
-use borrow.Author.Rules.{rules}
 use Rattle.row_shapes.proofs.aliases.language_alias.Goals as goal
 
 pub returns-then-not-is_language : goal.returns-then-not-is_language

@@ -3,8 +3,6 @@ use mathlib.Core.Path.{sym, ◌∙◌}
 use lib.Seq.{length-take-le}
 use Rattle.byte_string.proofs.Ends.{end-le}
 use Rattle.row_shapes.proofs.Texts.{language-row}
-use borrow.Author.Rules.{rules}
-use native.Mathlib.Omega.{arith}
 use Rattle.row_shapes.proofs.aliases.name_of.Goals as goal
 
 pub returns-then-starts_row : goal.returns-then-starts_row

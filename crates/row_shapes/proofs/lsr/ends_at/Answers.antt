@@ -1,6 +1,4 @@
 -- `row_shapes::lsr::ends_at` meets its contract. Assumes nothing.
-use borrow.Author.Rules.{rules}
-use native.Mathlib.Omega.{arith}
 use Rattle.row_shapes.proofs.lsr.ends_at.Goals as goal
 
 pub returns-then-f : goal.returns-then-f

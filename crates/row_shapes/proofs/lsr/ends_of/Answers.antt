@@ -1,7 +1,5 @@
 -- `row_shapes::lsr::ends_of` meets its contract. Assumes nothing.
 use Rattle.row_shapes.proofs.Ends.{cut-three, language-near}
-use borrow.Author.Rules.{rules}
-use native.Mathlib.Omega.{arith}
 use Rattle.row_shapes.proofs.lsr.ends_of.Goals as goal
 
 pub script_end-script-requires : goal.script_end-script-requires

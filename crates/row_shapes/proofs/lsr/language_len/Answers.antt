@@ -1,7 +1,5 @@
 -- `row_shapes::lsr::language_len` meets its contract. Assumes nothing.
-use borrow.Author.Rules.{rules}
 use Rattle.row_shapes.proofs.Fronts.{len_short, len-four, len-long, len-sized}
-use native.Mathlib.Omega.{arith}
 use Rattle.row_shapes.proofs.lsr.language_len.Goals as goal
 
 pub returns-then-n-lt2 : goal.returns-then-n-lt2

@@ -1,7 +1,5 @@
 -- `row_shapes::lsr::region_len` meets its contract. Assumes nothing.
-use borrow.Author.Rules.{rules}
 use Rattle.row_shapes.proofs.Fronts.{region-short, region-other, region-two-yes, region-three-yes, region-no}
-use native.Mathlib.Omega.{arith}
 use Rattle.row_shapes.proofs.lsr.region_len.Goals as goal
 
 pub returns-then-s-lt1 : goal.returns-then-s-lt1

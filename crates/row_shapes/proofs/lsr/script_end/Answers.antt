@@ -1,8 +1,6 @@
 -- `row_shapes::lsr::script_end` meets its contract. Assumes nothing.
 use mathlib.Core.Path.{sym}
 use Rattle.row_shapes.proofs.Ends.{end-script, end_none}
-use borrow.Author.Rules.{rules}
-use native.Mathlib.Omega.{arith}
 use Rattle.row_shapes.proofs.lsr.script_end.Goals as goal
 
 pub returns-then-e-len : goal.returns-then-e-len

@@ -1,9 +1,6 @@
 -- `row_shapes::lsr::script_len` meets its contract. Assumes nothing.
-use borrow.Author.Rules.{rules}
-use borrow.Author.Tests.{not-true, not-false}
 use mathlib.Core.Path.{sym, ◌∙◌}
 use Rattle.row_shapes.proofs.Fronts.{script-short, script-other, script-lower, script-yes, script-no}
-use native.Mathlib.Omega.{arith}
 use Rattle.row_shapes.proofs.lsr.script_len.Goals as goal
 
 pub returns-then-s-lt2 : goal.returns-then-s-lt2

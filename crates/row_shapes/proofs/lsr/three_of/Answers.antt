@@ -1,7 +1,5 @@
 -- `row_shapes::lsr::three_of` meets its contract. Assumes nothing.
-use borrow.Author.Rules.{rules}
 use Rattle.row_shapes.proofs.Fronts.{three-whole}
-use native.Mathlib.Omega.{arith}
 use Rattle.row_shapes.proofs.lsr.three_of.Goals as goal
 
 pub returns : goal.returns

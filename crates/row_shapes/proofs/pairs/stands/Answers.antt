@@ -1,7 +1,5 @@
 -- `row_shapes::pairs::stands` meets its contract. Assumes nothing.
-use borrow.Author.Rules.{rules}
 use Rattle.row_shapes.proofs.Texts.{stands-out}
-use native.Mathlib.Omega.{arith}
 use Rattle.row_shapes.proofs.pairs.stands.Goals as goal
 
 pub returns-then-s-at : goal.returns-then-s-at

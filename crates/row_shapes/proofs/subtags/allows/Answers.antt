@@ -2,8 +2,6 @@
 use mathlib.Core.Path.{sym, ap, ◌∙◌}
 use Rattle.row_shapes.specs.declared.subtags.Bytes.{Bytes}
 use Rattle.row_shapes.specs.Shapes.{allowed}
-use borrow.Author.Rules.{rules}
-use native.Mathlib.Omega.{arith}
 use Rattle.row_shapes.proofs.subtags.allows.Goals as goal
 
 pub returns-in-Small : goal.returns-in-Small

@@ -1,13 +1,9 @@
 -- `row_shapes::subtags::every` meets its contract. Assumes nothing.
-use borrow.Author.Rules.{rules}
-use native.Mathlib.Omega.{arith}
-use mathlib.Core.Path.{◌≡◌, refl, sym, ◌∙◌}
+use mathlib.Core.Path.{◌≡◌}
 use Prim.Native.Nat.{◌-◌}
 use lib.ListN.{length, drop}
-use borrow.Author.Tests.{not-true, not-false}
 use Rattle.standard.specs.Grammar.{every}
 use Rattle.row_shapes.specs.Shapes.{allowed}
-use Rattle.row_shapes.proofs.Tags.{every-end, every-not, every-next}
 use Rattle.row_shapes.proofs.subtags.every.Given as goal
 
 abbrev pub invariant-loop-i : goal.invariant-loop-i

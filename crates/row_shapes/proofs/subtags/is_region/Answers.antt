@@ -2,8 +2,6 @@
 use mathlib.Core.Path.{◌∙◌}
 use Rattle.row_shapes.specs.Shapes.{allowed}
 use Rattle.row_shapes.proofs.Tags as tags
-use borrow.Author.Rules.{rules}
-use native.Mathlib.Omega.{arith}
 use Rattle.row_shapes.proofs.subtags.is_region.Goals as goal
 
 pub returns-then-n-eq2 : goal.returns-then-n-eq2

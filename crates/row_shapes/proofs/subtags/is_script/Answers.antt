@@ -1,10 +1,7 @@
 -- `row_shapes::subtags::is_script` meets its contract. Assumes nothing.
-use borrow.Author.Tests.{not-true, not-false}
 use mathlib.Core.Path.{sym, ◌∙◌}
-use native.Mathlib.Omega.{arith}
 use Rattle.row_shapes.specs.Shapes.{allowed}
 use Rattle.row_shapes.proofs.Tags as tags
-use borrow.Author.Rules.{rules}
 use Rattle.row_shapes.proofs.subtags.is_script.Goals as goal
 
 pub returns-then-s-ne4 : goal.returns-then-s-ne4

@@ -1,9 +1,7 @@
 -- `row_shapes::subtags::is_variant` meets its contract. Assumes nothing.
-use borrow.Author.Tests.{not-true, not-false}
 use native.Mathlib.Omega.{arith}
 use mathlib.Core.Path.{sym, ◌∙◌}
 use Rattle.row_shapes.proofs.Tags as tags
-use borrow.Author.Rules.{rules}
 use Rattle.row_shapes.proofs.subtags.is_variant.Goals as goal
 
 pub returns-then-n-lt4 : goal.returns-then-n-lt4

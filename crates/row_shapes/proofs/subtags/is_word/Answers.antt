@@ -1,8 +1,6 @@
 -- `row_shapes::subtags::is_word` meets its contract. Assumes nothing.
 use mathlib.Core.Path.{sym, ◌∙◌}
 use Rattle.row_shapes.specs.Shapes.{allowed}
-use borrow.Author.Rules.{rules}
-use native.Mathlib.Omega.{arith}
 use Rattle.row_shapes.proofs.subtags.is_word.Goals as goal
 
 pub returns-then-is_small : goal.returns-then-is_small

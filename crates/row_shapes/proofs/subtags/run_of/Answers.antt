@@ -1,11 +1,6 @@
 -- `row_shapes::subtags::run_of` meets its contract. Assumes nothing.
-use borrow.Author.Rules.{rules}
 use native.Mathlib.Omega.{arith}
-use mathlib.Core.Path.{◌≡◌, sym, ◌∙◌}
-use Prim.Native.Nat.{◌+◌, ◌-◌, ◌≤◌}
-use lib.ListN.{length, drop}
-use borrow.Author.Tests.{not-true, not-false}
-use Rattle.row_shapes.specs.Shapes.{allowed, run}
+use mathlib.Core.Path.{sym, ◌∙◌}
 use Rattle.row_shapes.proofs.Fronts.{run-done, run-found, run_more}
 use Rattle.row_shapes.proofs.subtags.run_of.Goals as goal
 

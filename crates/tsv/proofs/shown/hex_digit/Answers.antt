@@ -1,8 +1,6 @@
 -- `tsv::shown::hex_digit` meets its contract. Assumes nothing.
 use mathlib.Core.Path.{sym}
 use Rattle.tsv.proofs.Showing as laws
-use borrow.Author.Rules.{rules}
-use native.Mathlib.Omega.{arith}
 use Rattle.tsv.proofs.shown.hex_digit.Goals as goal
 
 pub returns-then-n-lt10 : goal.returns-then-n-lt10

@@ -1,8 +1,6 @@
 -- `tsv::shown::is_plain` meets its contract. Assumes nothing.
 use mathlib.Core.Path.{sym}
 use Rattle.tsv.proofs.Showing as laws
-use borrow.Author.Rules.{rules}
-use native.Mathlib.Omega.{arith}
 use Rattle.tsv.proofs.shown.is_plain.Goals as goal
 
 pub returns-then-b-lt32 : goal.returns-then-b-lt32

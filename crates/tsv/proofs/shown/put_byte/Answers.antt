@@ -2,7 +2,6 @@
 use mathlib.Core.Path.{sym, ◌∙◌}
 use Rattle.tsv.proofs.Showing as laws
 use borrow.Author.Rules.{rules}
-use native.Mathlib.Omega.{arith}
 use Rattle.tsv.proofs.shown.put_byte.Goals as goal
 
 pub returns-then-is_plain : goal.returns-then-is_plain

@@ -3,7 +3,6 @@ use native.Mathlib.Omega.{arith}
 use Prim.Native.Nat.{◌+◌}
 use lib.ListN.{set, length-set}
 use Rattle.tsv.proofs.Showing as laws
-use borrow.Author.Rules.{rules}
 use Rattle.tsv.proofs.shown.put_escape.Goals as goal
 
 pub bounds-out-at-2 : goal.bounds-out-at-2

@@ -1,8 +1,6 @@
 -- `tsv::shown::put_safe` meets its contract. Assumes nothing.
 use native.Mathlib.Omega.{arith}
-use mathlib.Core.Path.{◌≡◌, refl}
-use Prim.Native.Nat.{◌-◌, ◌≤◌}
-use lib.ListN.{length}
+use mathlib.Core.Path.{refl}
 use Rattle.tsv.proofs.Showing as laws
 use borrow.Author.Rules.{rules}
 use Rattle.tsv.proofs.shown.put_safe.Goals as goal

@@ -1,10 +1,8 @@
 -- `tsv::shown::put_safe` meets its contract. Assumes nothing.
-use native.Mathlib.Omega.{arith}
-use mathlib.Core.Path.{◌≡◌, refl}
+use mathlib.Core.Path.{◌≡◌}
 use Prim.Native.Nat.{◌-◌, ◌≤◌}
 use lib.ListN.{length}
 use Rattle.tsv.proofs.Showing as laws
-use borrow.Author.Rules.{rules}
 use Rattle.tsv.proofs.shown.put_safe.Given as goal
 
 abbrev pub invariant-loop-i : goal.invariant-loop-i
