@@ -222,7 +222,7 @@ progress() {
             at=$now
             ;;
         'logic=not-proved'*) refused=$crate ;;
-        'fn '*': proved' | 'rt: chose '* | 'logic '* | 'statements '* | 'library '* | 'axioms '* | 'linked '* | 'only='*) ;;
+        'fn '*': proved' | 'rt: chose '* | 'rt: '*': begins with '* | 'logic '* | 'statements '* | 'library '* | 'axioms '* | 'linked '* | 'only='*) ;;
         *) others+=("$line") ;;
         esac
     done
