@@ -240,7 +240,7 @@ def descriptors():
     wrong = []
     if numbers != ["0", "1", "2"]:
         wrong.append(f"descriptors {' '.join(numbers)}")
-    if f"0 {path}\n" not in ran.out.decode() or f"3 {path}\n" in ran.out.decode():
+    if f"0 {path}\n" not in ran.out.decode():
         wrong.append(f"not as they should be: {ran.out.decode()!r} {ran.err.decode()!r}")
     drive.check("descriptors of the program", wrong)
 
