@@ -14,8 +14,9 @@ use Rattle.standard.specs.Grammar.{Kind, a_script, a_region, a_variant, a_none, 
 use Rattle.standard.specs.Identifier.{three, part, parts}
 use Rattle.standard.specs.Reading.{no_bytes, too_long, unclean, bad_tag, wrong_size, optional, split, root, start, by_part, part_fault, no_language, is_x, up_to, from, grammar_fault, fault_by, fault_of, find, core_of, after_first, identifier_of}
 use Rattle.standard.proofs.General.{bool_cases, le-or-lt}
-use Rattle.standard.proofs.Faults.{none-bad_tag}
+use Rattle.standard.proofs.Faults.{none-bad_tag, after-root}
 use Rattle.standard.proofs.Arranged.{first_of-none}
+use Rattle.standard.proofs.Numbering.{front}
 use Rattle.subtag.specs.Subtags.{PlainTag}
 use Rattle.subtag.proofs.Keys.{split-words}
 use Rattle.subtag.proofs.Walk.{split-next, split-end}
@@ -28,9 +29,9 @@ use Rattle.subtag.proofs.Cased.{cased-nil}
 use Rattle.reader.specs.Words.{later_word, LaterFits}
 use Rattle.reader.proofs.Bodies.{body, heads}
 use Rattle.reader.proofs.Walked.{grouped-flat}
-use Rattle.reader.proofs.Stages.{Others, Region, after-language, after-script, after-root, region-left}
+use Rattle.reader.proofs.Stages.{Others, Region, after-language, after-script, region-left}
 use Rattle.reader.proofs.Stepping.{Fine}
-use Rattle.reader.proofs.Outcomes.{fine}
+use Rattle.reader.proofs.Outcomes.{fine, too_long_lem}
 
 -- A subtag at a place.
 pub record Place (x : List ℕ) (at : ℕ) (t : Tag) : Type 0 where
@@ -38,7 +39,7 @@ pub record Place (x : List ℕ) (at : ℕ) (t : Tag) : Type 0 where
   pub short : length t ≤ 8
   pub fits : at ≤ length x
 
-all-at : (u : List Tag) (t : Tag) (v : List Tag) → All Fine (u ++ (t ∷ v)) → Fine t
+pub all-at : (u : List Tag) (t : Tag) (v : List Tag) → All Fine (u ++ (t ∷ v)) → Fine t
 unfolding All
 all-at [] t v a = a.0
 all-at (w ∷ u) t v a = all-at u t v a.1
@@ -66,7 +67,11 @@ place-from (w ∷ u) t v x e h =
     record { is = ap (λ (z : List ℕ). head_tag (split z)) (sym d) ∙ p.is; short = h; fits = omega arith }
 
 -- Without a fault.
+short : (x : List ℕ) → too_long x ≡ none → length x ≤ 255
+short x e = ⊎_elim (λ h. h) (λ h. absurd (some-ne-none _ (sym (too_long_lem x h) ∙ e))) (le-or-lt (length x) 255)
+
 pub record Accepted (x : List ℕ) : Type 0 where
+  pub in_size : length x ≤ 255
   pub fine-tags : All Fine (split x)
   pub a-language : no_language by_part.first (body (split x)) ≡ none
   pub core : part_fault by_part.first by_part.later start 0 (body (split x)) ≡ none
@@ -80,7 +85,7 @@ accepted x e =
     let f₄ = first_of-none (bad_tag 4 wrong_size 0 (split x)) _ f₃.1 in
     let f₅ = first_of-none _ _ f₄.1 in
     let f₆ = first_of-none _ _ f₅.1 in
-    record { fine-tags = fine (split x) (split-words x 0 f₃.0) (none-bad_tag 4 wrong_size 0 (split x) f₄.0); a-language = f₅.0; core = f₆.0 }
+    record { in_size = short x f₂.0; fine-tags = fine (split x) (split-words x 0 f₃.0) (none-bad_tag 4 wrong_size 0 (split x) f₄.0); a-language = f₅.0; core = f₆.0 }
 
 -- a language, or root and nothing else, or a script
 pub data Core (first : Tag) (others : List Tag) : Type 0 where
@@ -117,7 +122,7 @@ unfolding no_language head_tag after_first
 has_first [] e = absurd (some-ne-none _ e)
 has_first (t ∷ b) e = refl
 
-parts-optional : (t : Tag) → parts (optional t) ≡ part t
+pub parts-optional : (t : Tag) → parts (optional t) ≡ part t
 unfolding parts optional part
 parts-optional [] = refl
 parts-optional (b ∷ bs) = omega arith
@@ -155,8 +160,19 @@ pub record Named (x : List ℕ) (p : Parts) : Type 0 where
   pub three : (identifier_of (split x)).core ≡ core_of (first ∷ others)
   pub script : is_language first ≡ true → Later x p.language p.script (find a_script others)
   pub region : Later x p.script p.region (find a_region others)
+  -- all its subtags, those of the main language part, where the parts end, and the number of variants
+  pub behind : List Tag
+  pub in_size : length x ≤ 255
+  pub first_some : 0 < length first
+  pub fine-tags : All Fine (split x)
+  pub tags : split x ≡ first ∷ (optional (find a_script others) ++ (optional (find a_region others) ++ (only is_variant others ++ behind)))
+  pub main : up_to is_singleton (split x) ≡ first ∷ others
+  pub language-end : p.language ≡ language_cut first
+  pub script-end : p.script ≡ length first + part (find a_script others)
+  pub region-end : p.region ≡ length first + part (find a_script others) + part (find a_region others)
+  pub count : p.variant_count ≡ length (only is_variant others)
 
-language-cut : (t : Tag) → is_language t ≡ true → language_cut t ≡ length t
+pub language-cut : (t : Tag) → is_language t ≡ true → language_cut t ≡ length t
 unfolding language_cut
 language-cut t e = rw (e, language_cut)
 
@@ -191,4 +207,14 @@ named x p e q =
       three = ap core_of f;
       script = λ l. later-is x (t ∷ []) s (optional r ++ (only is_variant o ++ more)) p.language p.script a.fine-tags (tags ∙ ap (◌∷◌ t) y) (let k = pl ∙ language-cut t l in omega arith) (let k = pl ∙ language-cut t l in omega arith);
       region = later-is x (t ∷ optional s) r (only is_variant o ++ more) p.script p.region a.fine-tags (tags ∙ ap (◌∷◌ t) y) (omega arith) (omega arith);
+      behind = more;
+      in_size = a.in_size;
+      first_some = w.plain.0;
+      fine-tags = a.fine-tags;
+      tags = tags ∙ ap (◌∷◌ t) y;
+      main = sym (front (split x)) ∙ f;
+      language-end = pl;
+      script-end = ps;
+      region-end = pr;
+      count = ap (λ (z : Parts). z.variant_count) q;
     }

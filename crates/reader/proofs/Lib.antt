@@ -10,6 +10,8 @@ pub mod Loop
 pub mod Stepping
 pub mod Outcomes
 pub mod Words
+pub mod Spanned
 pub mod Stages
 pub mod Accepted
+pub mod Placed
 pub mod Reports

@@ -97,7 +97,7 @@ unfolding no_bytes
 no_bytes_lem [] h = absurd (omega arith)
 no_bytes_lem (b ∷ x) h = refl
 
-too_long_lem : (x : List ℕ) → 255 < length x → too_long x ≡ fault 2 0
+pub too_long_lem : (x : List ℕ) → 255 < length x → too_long x ≡ fault 2 0
 unfolding too_long
 too_long_lem x h = rw (lt-leb (length x) 255 h, too_long)
 

@@ -7,7 +7,7 @@ use mathlib.Core.Option.{Option, none, some}
 use Prim.Native.Nat.{ℕ}
 use Rattle.standard.specs.Tag.{Tag}
 use Rattle.standard.specs.Grammar.{Kind, a_script, a_region, a_variant, a_none, kind_of, kind, variant_kind, size_of, is_variant, only}
-use Rattle.standard.specs.Reading.{optional, Stage, after_language, after_script, after_region, after_root, accept, rest_fault, of_kind, find}
+use Rattle.standard.specs.Reading.{optional, Stage, after_language, after_script, after_region, accept, rest_fault, of_kind, find}
 use Rattle.standard.proofs.General.{clash}
 use Rattle.standard.proofs.Faults.{kind-variant, Back, back, nothing}
 use Rattle.standard.proofs.Shapes.{known}
@@ -121,9 +121,3 @@ after-language w seen at (t ∷ ts) e = let b = back w after_language seen at t 
         ∙ sym (ap₂ (λ (x y : Tag). optional x ++ (optional y ++ only is_variant (t ∷ ts))) (find-this a_script t ts (rw f)) (find-other a_region t ts (rw f))
         ∙ ap₂ (λ (x y : List Tag). x ++ (optional (find a_region ts) ++ y)) (optional-one t a_script f refl) (only-other t ts (kind-variant t a_script f)))
     go a_none f b a = nothing (rw f at a)
-
--- nothing follows root
-pub after-root : (w : ℕ) (seen : List Tag) (at : ℕ) (ts : List Tag) → rest_fault w after_root seen at ts ≡ none → ts ≡ []
-unfolding accept
-after-root w seen at [] e = refl
-after-root w seen at (t ∷ ts) e = let b = back w after_root seen at t ts e in nothing b.accepted

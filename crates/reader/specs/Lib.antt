@@ -3,4 +3,5 @@ pub mod Parts
 pub mod Walk
 pub mod Marks
 pub mod Steps
+pub mod Spans
 pub mod Words

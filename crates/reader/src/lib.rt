@@ -4,6 +4,7 @@
 
 mod marks;
 pub mod report;
+pub mod spans;
 pub mod steps;
 
 ghost use Rattle.std.specs.Prelude.{◌≡◌, not, ◌+◌, ◌≤◌, ◌<◌, length};

@@ -23,6 +23,8 @@ pub mod Listing
 pub mod Theorem
 pub mod Letters
 pub mod Numbering
+pub mod Places
+pub mod PlacesCases
 pub mod Cases
 pub mod Whole
 pub mod Bounds

@@ -163,7 +163,7 @@ x-single : (t : Tag) → is_x t ≡ true → is_singleton t ≡ true
 unfolding is_x is_singleton one_size size_of
 x-single t e = rw (same-eq t x_tag e)
 
-front : (ts : List Tag) → (grouped is_singleton (up_to is_x ts)).before ≡ up_to is_singleton ts
+pub front : (ts : List Tag) → (grouped is_singleton (up_to is_x ts)).before ≡ up_to is_singleton ts
 unfolding grouped with_tag up_to
 front [] = refl
 front (t ∷ ts) = bool_cases (is_x t) (λ e. rw (e, up_to) (rw (x-single t e, up_to))) (λ e. rw (e, up_to) (go (is_singleton t) refl (front ts)))

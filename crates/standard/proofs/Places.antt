@@ -1,4 +1,4 @@
--- 02, T-10, for all bytes; a file to open first, beside Theorem.antt: cutting the input at the places that reading reports
+-- 02, T-10, for all bytes; a file to open first, beside Theorem.antt: cutting the input at the places of its parts
 -- gives the written subtags back (`given_back`), they are all the subtags before the first singleton, in order
 -- (`all-written`), and they don't overlap (`not-overlapping`). Assumes nothing.
 use mathlib.Core.Path.{◌≡◌, refl, sym, ap, ◌∙◌}
@@ -12,9 +12,9 @@ use lib.ListN.{length, take, drop, length-map}
 use Rattle.standard.specs.Tag.{Tag, same, onto, All}
 use Rattle.standard.specs.Grammar.{separator, lower_byte, title, upper, Kind, a_script, a_region, a_variant, a_none, kind, kind_of, size_of, wrong_length, variant_kind, is_variant, is_language, is_singleton, only}
 use Rattle.standard.specs.Identifier.{Three, three, und, Identifier, part, parts}
-use Rattle.standard.specs.Reading.{optional, split, Fault, no_bytes, too_long, unclean, bad_tag, wrong_size, Stage, after_language, after_script, after_root, rest_fault, root, start, by_part, part_fault, no_language, up_to, grammar_fault, fault_by, fault_of, of_kind, find, core_of, after_first, identifier_of, Read, read_as, read, good, bad}
+use Rattle.standard.specs.Reading.{optional, split, Fault, no_bytes, too_long, unclean, bad_tag, wrong_size, Stage, after_language, after_script, after_root, rest_fault, root, start, by_part, part_fault, no_language, up_to, grammar_fault, fault_by, fault_of, of_kind, find, core_of, after_first, identifier_of, read_as, read, good}
 use Rattle.standard.specs.Table.{lower}
-use Rattle.standard.specs.Places.{Span, span, nowhere, spans_from, span_of, variant_spans, Places, unwritten, places_of, cut_out, cut_lower, GivenBack, shown, written, Apart, Inside}
+use Rattle.standard.specs.Places.{Span, span, nowhere, spans_from, span_of, variant_spans, Places, places_of, cut_out, cut_lower, GivenBack, shown, written, Apart, Inside}
 use Rattle.standard.specs.Report.{report_of, report}
 use Rattle.standard.proofs.Tags.{same-eq}
 use Rattle.standard.proofs.General.{clash, bool_cases}
@@ -332,15 +332,14 @@ accepted-part x q =
     part-some by_part.first by_part.later (cut_lower x) refl (before x) (before-cuts x) (rw w at f₅.0)
     (up-all is_singleton (split x) (none-bad_tag 4 wrong_size 0 (split x) f₄.0)) (rw w at f₆.0)
 
--- the places that reading reports of an accepted input, and what it was read as
+-- the places of an accepted input, and what it was read as
 record Reported (x : List ℕ) (i : Identifier) : Type 0 where
-  places : (report x).places ≡ places_of (before x)
   core : core_of (before x) ≡ i.core
   variants : only is_variant (after_first (before x)) ≡ i.variants
   part : Part (cut_lower x) (before x) (places_of (before x)) (core_of (before x))
 
 reported : (x : List ℕ) (i : Identifier) → read x ≡ good i → Reported x i
-unfolding report report_of read read_as identifier_of
+unfolding read read_as identifier_of
 reported x i e = go (fault_of x) refl e
   where
     go : (o : Option Fault) → fault_of x ≡ o → read_as o (identifier_of (split x)) ≡ good i → Reported x i
@@ -349,41 +348,34 @@ reported x i e = go (fault_of x) refl e
         let w = front (split x) in
         let j = good-eq r in
         record {
-          places = rw e;
           core = ap core_of (sym w) ∙ ap (λ (k : Identifier). k.core) j;
           variants = ap (λ (ts : List Tag). only is_variant (after_first ts)) (sym w) ∙ ap (λ (k : Identifier). k.variants) j;
           part = accepted-part x q;
         }
 
 -- 02, T-10: cutting the input at these places gives each written subtag back
-pub given_back : (x : List ℕ) (i : Identifier) → read x ≡ good i → GivenBack (cut_lower x) i.core i.variants (report x).places
-given_back x i e = let r = reported x i e in rw (r.places, ← r.core, ← r.variants) r.part.given
+pub given_back : (x : List ℕ) (i : Identifier) → read x ≡ good i → GivenBack (cut_lower x) i.core i.variants (places_of (up_to is_singleton (split x)))
+given_back x i e = let r = reported x i e in rw (← r.core, ← r.variants) r.part.given
 
 -- 02, T-10: the pieces are the subtags before the first singleton, in order
 pub all-written : (x : List ℕ) (i : Identifier) → read x ≡ good i
-    → (written (report x).places ≡ spans_from 0 (up_to is_singleton (split x))) × (map (cut_lower x) (written (report x).places) ≡ up_to is_singleton (split x))
+    → (written (places_of (up_to is_singleton (split x))) ≡ spans_from 0 (up_to is_singleton (split x)))
+    × (map (cut_lower x) (written (places_of (up_to is_singleton (split x)))) ≡ up_to is_singleton (split x))
 all-written x i e =
     let r = reported x i e in
-    let w : written (report x).places ≡ spans_from 0 (before x) = rw r.places r.part.all in
+    let w : written (places_of (before x)) ≡ spans_from 0 (before x) = r.part.all in
     (w, rw w (before-cuts x))
 
 -- 02, T-10: pieces don't overlap; and each ends inside the input
-pub not-overlapping : (x : List ℕ) (i : Identifier) → read x ≡ good i → Apart 0 (written (report x).places) × Inside (length x) (written (report x).places)
+pub not-overlapping : (x : List ℕ) (i : Identifier) → read x ≡ good i
+    → Apart 0 (written (places_of (up_to is_singleton (split x)))) × Inside (length x) (written (places_of (up_to is_singleton (split x))))
 not-overlapping x i e =
     let k = up_from is_singleton (split x) in
     let l = split_parts x in
     rw (all-written x i e).0 (spans_apart 0 (before x), spans-inside (length x) 0 (before x) (omega (arith, k, l)))
 
--- a refusal has length 0 at place 0 everywhere
-pub refused-nowhere : (x : List ℕ) (n p : ℕ) → read x ≡ bad n p → (report x).places ≡ unwritten
+-- there are as many places of variants as the report counts variants
+pub variants-counted : (x : List ℕ) (i : Identifier) → read x ≡ good i → length (places_of (up_to is_singleton (split x))).variants ≡ (report x).variants
 unfolding report report_of
-refused-nowhere x n p e = rw e
-
--- the report counts the variants whose places it has
-pub variants-counted : (x : List ℕ) → length (report x).places.variants ≡ (report x).variants
-unfolding report report_of
-variants-counted x = go (read x) refl
-  where
-    go : (r : Read) → read x ≡ r → length (report x).places.variants ≡ (report x).variants
-    go (good i) e = sym (length-map (report x).places.variants (cut_lower x)) ∙ ap length (given_back x i e).all-variants ∙ rw e
-    go (bad n p) e = rw e
+variants-counted x i e =
+    sym (length-map (places_of (before x)).variants (cut_lower x)) ∙ ap length (given_back x i e).all-variants ∙ rw e

@@ -12,14 +12,14 @@ use crate::Parts;
 
 // Where a subtag begins and how long it is; 0 and 0 where none was written. Both fit a byte, as an identifier has at most
 // 255 bytes.
-#[derive(Drop)]
+#[derive(Clone, Copy)]
 pub struct Span {
     pub start: u8,
     pub len: u8,
 }
 
 // Of each part; of the variants one entry each, in the order typed, and behind them 0 and 0. No more than 50 fit.
-#[derive(Drop)]
+#[derive(Clone, Copy)]
 pub struct Places {
     pub language: Span,
     pub script: Span,
@@ -70,7 +70,7 @@ fn part_span(from: usize, to: usize) -> Span
 // Where the subtag at `at` ends.
 fn subtag_end(id: &[u8], at: usize) -> usize
     requires { at ≤ length id.now }
-    ensures { let id = id.entry.now in (result ≡ at + length (head_tag (split (drop at id)))) × (result ≤ length id) }
+    ensures { let id = id.now in (result ≡ at + length (head_tag (split (drop at id)))) × (result ≤ length id) }
 {
     let mut end = at;
     while end < id.len() {
@@ -100,9 +100,9 @@ fn variant_spans(id: &[u8], from: usize, count: usize) -> [Span; 50]
 }
 
 // The places of an accepted identifier.
-pub(crate) fn places_of(id: &[u8], p: Parts) -> Places
+pub fn places_of(id: &[u8], p: Parts) -> Places
     requires { let id = id.now in (fault_of id ≡ none) × (p ≡ parts_of (split id)) }
-    ensures { let id = id.entry.now in let n = p.variant_count in
+    ensures { let id = id.now in let n = p.variant_count in
         (places_is n result ≡ places_of (up_to is_singleton (split id))) × Counted n result }
 {
     let language = part_span(0, p.language);
@@ -117,7 +117,7 @@ pub(crate) fn places_of(id: &[u8], p: Parts) -> Places
 }
 
 // The places of a refusal.
-pub(crate) fn no_places() -> Places
+pub fn no_places() -> Places
     ensures { (places_is 0 result ≡ unwritten) × Counted 0 result }
 {
     Places {
