@@ -21,14 +21,14 @@ OUT := target/c
 all: $(OUT)/altazhbey.pc $(OUT)/libaltazhbey.a $(OUT)/$(SHARED)
 
 # what is proved; a change of any crate asks the prover again, which proves only what changed. The lock is that of
-# programs.sh, as both let rt prove in target/
-$(OUT)/libaltazhbey.a: crates.txt $(shell find crates -type f -not -path '*/must-fail/*')
+# programs.sh, as both let rt prove
+$(OUT)/libaltazhbey.a: crates.txt $(shell find crates -regex 'crates/[^/]*/\(must-fail\|out\)' -prune -o -type f -print)
 	@mkdir -p $(OUT) target/programs
 	@echo 'proving the library for C and what it rests on, which takes some minutes the first time' >&2
 	@exec 9>target/programs/lock; \
 	! command -v flock >/dev/null || flock -n 9 || { echo 'waiting for a program that is being proved' >&2; flock 9; } || exit; \
-	rt staticlib c_api >$(OUT)/log 2>&1 || { tail -n 20 $(OUT)/log >&2; exit 1; }; \
-	cp target/staticlib/libc_api.a $@
+	(cd crates/c_api_c && rt lib) >$(OUT)/log 2>&1 || { tail -n 20 $(OUT)/log >&2; exit 1; }; \
+	cp crates/c_api_c/out/libc_api_c.a $@
 
 $(OUT)/$(SHARED): $(OUT)/libaltazhbey.a
 	$(CC) -shared -Wl,-soname,$(SHARED) -Wl,-z,defs,-z,relro,-z,now $(LDFLAGS) -Wl,--whole-archive $< -Wl,--no-whole-archive -o $@

@@ -148,22 +148,21 @@ crates() {
             printf "%s ", crate
         }
         { sub(/#.*/, "") }
-        split($0, part, ":") == 2 { gsub(/[ \t]/, "", part[1]); rests[part[1]] = part[2] }
+        split($0, part, ":") == 2 { split(part[1], words, " "); rests[words[1]] = part[2] }
         END { visit(name) }' "$here/crates.txt"
+}
+
+# has find go over the files that the program rests on; a crate's must-fail/ and out/ are none of them
+rested_on() { # ACTION ..
+    find -L crates.txt "${on[@]/#/crates/}" -regex 'crates/[^/]*/\(must-fail\|out\)' -prune -o -type f "$@"
 }
 
 # two checksums: of the names, inodes, sizes and dates of change of the files that the program rests on, which a change of
 # any changes, and of its own bytes
-look() {
-    cd -P "$here" && find -L crates.txt "${on[@]/#/crates/}" -name must-fail -prune -o -type f -printf '%p %i %s %C@\n' 2>&1 |
-        cksum - "target/bin/$name" 2>/dev/null
-}
+look() { cd -P "$here" && rested_on -printf '%p %i %s %C@\n' 2>&1 | cksum - "target/bin/$name" 2>/dev/null; }
 
 # the bytes of these files, as a checksum
-bytes_now() {
-    cd -P "$here" && find -L crates.txt "${on[@]/#/crates/}" -name must-fail -prune -o -type f -print0 2>/dev/null |
-        LC_ALL=C sort -z | xargs -0 cksum 2>/dev/null | cksum
-}
+bytes_now() { cd -P "$here" && rested_on -print0 2>/dev/null | LC_ALL=C sort -z | xargs -0 cksum 2>/dev/null | cksum; }
 
 # the stamp of what was built: the kit, the crates that it rests on, their bytes, and what `look` showed
 read_stamp() {
@@ -187,12 +186,6 @@ is_current() {
     write_stamp "$seen" || return 0
 }
 
-# whether the program is gone, or is another than was built of these files
-is_lost() {
-    [ -x "$program" ] || return 0
-    [ "$(look | tail -n 1)" != "$made" ] && [ "$(bytes_now)" = "$bytes" ]
-}
-
 # takes the lock, as programs that are started at once share target/; where there is no flock, it is a folder
 lock() {
     local at=$here/target/programs/lock holder waits='waiting for another program that is being proved'
@@ -212,49 +205,61 @@ lock() {
     echo "$BASHPID" >"$at.folder/process"
 }
 
-# shows of what rt prints a line for each crate that it proved; of all else, where it failed, the end
-progress() { # HOW MANY
-    local line count=0 others=()
+# shows of what rt prints a line for each crate that it proved, with its place among all; of an unchanged one rt says
+# nothing. Of all else, where nothing was built, it shows the end, and the crate that was refused
+progress() {
+    local line crate='' refused='' built='' k now at=${EPOCHREALTIME/[.,]/} others=()
     while IFS= read -r line; do
         case $line in
-        'rt: ok, '*) return 0 ;;
-        'rt: '*' proved (unchanged '*) count=$((count + 1)) ;;
-        'rt: '*' proved ('*' s)')
-            count=$((count + 1)) line=${line#rt: }
-            say "proving, $count of $1: ${line/ proved/}"
+        'rt: running '*) built=yes ;;
+        'rt: waiting for '*) say "${line#rt: }" ;;
+        'crate '*': modules '*) crate=${line#crate } crate=${crate%%:*} ;;
+        'logic=proved '*)
+            now=${EPOCHREALTIME/[.,]/}
+            for k in "${!on[@]}"; do
+                [ "${on[k]}" != "$crate" ] || say "proving, $((k + 1)) of ${#on[@]}: $crate ($(((now - at) / 1000000)) s)"
+            done
+            at=$now
             ;;
+        'logic=not-proved'*) refused=$crate ;;
+        'fn '*': proved' | 'rt: chose '* | 'rt: '*': begins with '* | 'logic '* | 'statements '* | 'library '* | 'axioms '* | 'linked '* | 'only='*) ;;
         *) others+=("$line") ;;
         esac
     done
+    [ -z "$built" ] || return 0
     printf '%s\n' "${others[@]}" | tail -n 20 >&2
+    [ -z "$refused" ] || say "$refused NOT PROVED"
     return 1
 }
 
-# has rt prove and build the program; others may enter the room, as rt runs what it built as another user. Bash says nothing
-# of a process that a signal ends
+# has rt prove and build the program, which it then runs once, on nothing: what that prints, and how it ends, is no matter.
+# Bash says nothing of a process that a signal ends
 ask_rt() { # ROOM
-    { (cd -P "$here" && TMPDIR=$1 rt check "$name") 2>&1 | progress "${#on[@]}" 2>&4; } 4>&2 2>/dev/null
+    { (cd -P "$here/crates/$name" && TMPDIR=$1 rt run 2>&1 >/dev/null; :) | progress 2>&4; } 4>&2 2>/dev/null
 }
 
-# proves and builds the program, alone; rt looks at sources alone, so that it forgets a lost program first. The stamp has
-# the files as they were before, and is not written where one changed meanwhile. What is kept meanwhile is removed, however
-# it ends. A terminal that stops what writes from the background does not stop this
+# takes the program from rt's folder, which rt empties now and then, as under rt ci
+take() { mkdir -p "${program%/*}" && cp "$here/crates/$name/out/$name" "$program.$BASHPID.new" && mv "$program.$BASHPID.new" "$program"; }
+
+# proves and builds the program, alone. The stamp has the files as they were before, and is not written where one changed
+# meanwhile. What is kept meanwhile is removed, however it ends. A terminal that stops what writes from the background does
+# not stop this
 prove() {
     local room kit list before seen
     trap '' TTOU
-    remove=("$stamp.$BASHPID.new")
+    remove=("$stamp.$BASHPID.new" "$program.$BASHPID.new")
     trap 'rm -rf "${remove[@]}"' EXIT
     lock || return
     if is_current; then return 0; fi
-    ! is_lost || rm -f "$here/target/stamp/$name"
     room=${TMPDIR:-/tmp}/$name.$BASHPID.$RANDOM$RANDOM
     remove+=("$room")
-    mkdir -m 711 -- "$room" 2>/dev/null || fail "$room: $(cause mkdir -m 711 -- "$room")"
+    mkdir -m 700 -- "$room" 2>/dev/null || fail "$room: $(cause mkdir -m 700 -- "$room")"
     ask_kit && list=$(crates) && [ -n "$list" ] && read -ra on <<<"$list" || return
     by=$kit before=$(look)
     bytes=$(bytes_now) || fail 'find, sort, xargs or cksum failed, so no change would be seen'
-    say "proving it and what it rests on, ${#on[@]} crates; unchanged ones stay proved, another takes 1 to 60 s"
+    say "proving it and what it rests on, ${#on[@]} crates; unchanged ones stay proved, another takes seconds to minutes"
     ask_rt "$room" || return
+    take 2>/dev/null || fail "$program: $(cause take)"
     seen=$(look) || fail 'find or cksum failed, so no change would be seen'
     [ "${seen%%$'\n'*}" = "${before%%$'\n'*}" ] || return 0
     write_stamp "$seen" || fail "$stamp could not be written"
@@ -320,22 +325,24 @@ enter_tables() {
 # opens a pipe, for what a process has to say at its end
 open_pipe() { { exec {pipe}<> <(:); } 2>/dev/null || fail "a pipe: $(cause eval 'exec {pipe}<> <(:)')"; }
 
-# runs the program: the digit that it writes to descriptor 3 at its end is the exit status; of SIGPIPE nothing is said
+# runs the program, which has an argument so that its exit status says what it came to. Where nobody reads its output any
+# more that is 141, as by SIGPIPE: nothing is said of it but where that signal is ignored
 run() {
-    local fd digit=''
-    exec 3<&"$pipe" {pipe}<&- || exit 1
+    local fd
+    exec {pipe}<&- || exit 1
     catch
     (
+        exec 3>&-
         for fd in $closed; do exec {fd}>&-; done
         exec "$program" status
     ) <&0 &
     await $!
-    if [ "$status" -gt 128 ]; then
-        [ "$status" -eq 141 ] || say "ended by SIG$(kill -l "$status")"
-        exit "$status"
-    fi
-    ! read -r -t 0 -u 3 || read -r -n 1 -u 3 digit
-    case $digit in [013]) exit "$digit" ;; *) exit 1 ;; esac
+    case $status in
+    0 | 1 | 3) exit "$status" ;;
+    141) [ -z "$(trap -p PIPE)" ] || fail 'standard output: Broken pipe' ;;
+    *) [ "$status" -gt 128 ] || exit 1; say "ended by SIG$(kill -l "$status")" ;;
+    esac
+    exit "$status"
 }
 
 # descriptors that are closed, and closed again for the program: meanwhile a folder, which can't be read or written as a

@@ -2,8 +2,8 @@
 
 fn main() {
     let root = std::env::var("CARGO_MANIFEST_DIR").unwrap();
-    for (binary, library) in [("compare", "test_api"), ("calls", "c_api")] {
-        let path = format!("{root}/../../target/staticlib/lib{library}.a");
+    for (binary, library) in [("compare", "test_api"), ("calls", "c_api_c")] {
+        let path = format!("{root}/../../crates/{library}/out/lib{library}.a");
         println!("cargo:rustc-link-arg-bin={binary}={path}");
         println!("cargo:rerun-if-changed={path}");
     }

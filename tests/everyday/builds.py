@@ -3,6 +3,7 @@
 import errno
 import os
 import pty
+import re
 import shutil
 import signal
 import termios
@@ -12,7 +13,7 @@ import drive
 from drive import ROOT
 
 HERE = Path(__file__).parent
-PROGRAM = '#!/bin/sh\necho "$(basename "$0") runs"\nexec printf 0 >&3\n'
+PROGRAM = '#!/bin/sh\necho "$(basename "$0") runs"\n'
 # What the wrapper calls, without rt and flock.
 TOOLS = "awk basename bash cat chmod cksum cp env find mkdir mktemp mv printf readlink rm sed sh sleep sort tail wc xargs".split()
 
@@ -80,12 +81,15 @@ class Project:
         return found
 
 
+ASKED = "taken again from rt, which has it"
+
+
 def runs(name, project, ran, built, program="keys"):
-    """The program ran, and was built before or not."""
+    """The program ran, and was built before or not, or rt, when asked, had it."""
     drive.ends(name, ran, 0, f"{program} runs\n".encode(), drive.in_tables(program, project.root / "tables") if not built else None)
     log = project.log("began", "ended", "unchanged")
-    want = [f"began {program}", f"ended {program}"] if built else []
-    drive.check(f"{name}: {'built' if built else 'not built'}", [] if log == want else [f"the log has {log}"])
+    want = [f"unchanged {program}"] if built == ASKED else [f"began {program}", f"ended {program}"] if built else []
+    drive.check(f"{name}: {built if built == ASKED else 'built' if built else 'not built'}", [] if log == want else [f"the log has {log}"])
     project.forget()
 
 
@@ -94,9 +98,11 @@ def first_use():
     ran = project.run("keys")
     lines = ran.err.decode().replace(str(project.root), "ROOT").splitlines()
     wrong = []
-    for k, crate in enumerate(("standard", "subtag", "keys")):
-        if not any(line.startswith(f"keys: proving, {k + 1} of ") and line.endswith(f": {crate} (0 s)") for line in lines):
-            wrong.append(f"no progress of {crate}: {lines}")
+    # each with its place among the crates that keys rests on: standard is the first, keys the last
+    seen = re.findall(r"(?m)^keys: proving, (\d+) of (\d+): (\w+) \(0 s\)$", "\n".join(lines))
+    places = [int(place) for place, _, _ in seen]
+    if [crate for _, _, crate in seen] != ["standard", "subtag", "keys"] or not 1 == places[0] < places[1] < places[2] == int(seen[2][1]):
+        wrong.append(f"no progress: {lines}")
     if not any("takes" in line and "crates" in line for line in lines[:1]):
         wrong.append(f"nothing said of how long it takes: {lines}")
     drive.check("first use says how far it is", wrong)
@@ -138,9 +144,16 @@ def changes(project):
     (project.notes / "version").write_text("kit 2\n")
     after("another kit", True)
     (project.root / "target/bin/keys").unlink(missing_ok=True)
-    after("the program is gone", True)
+    after("the program is gone", ASKED)
     (project.root / "target/bin/keys").write_text(PROGRAM.replace("runs", "is another"))
-    after("the program is another", True)
+    after("the program is another", ASKED)
+    for place in ("target/bin/keys", "crates/keys/out/keys"):
+        (project.root / place).write_text(PROGRAM.replace("runs", "is another"))
+    after("the program is another, in rt's folder too", True)
+    shutil.rmtree(crates / "keys/out")
+    after("rt's folder is gone", False)
+    (project.root / "target/bin/keys").unlink()
+    after("the program is gone, and rt's folder", True)
     for date in (10**9, 2 * 10**9):
         os.utime(project.root / "target/bin/keys", (date, date))
         after(f"the program of the date {date}", False)
@@ -175,7 +188,7 @@ def copied_target():
     runs("a further change", project, project.run("keys"), True)
     shutil.rmtree(target)
     shutil.copytree(kept, target, copy_function=shutil.copy)
-    runs("an older target/ is put back", project, project.run("keys"), True)
+    runs("an older target/ is put back", project, project.run("keys"), ASKED)
     (project.root / "crates/subtag/src/more.rt").write_text("")
     renewed(target)
     runs("a new file, then target/ is copied", project, project.run("keys"), True)

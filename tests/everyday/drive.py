@@ -222,28 +222,9 @@ def run_from(stdin, program, *arguments, **options):
 
 
 def bare(program, env, stdin, prepare=None, cwd=TABLES, binary=None):
-    """Starts a compiled program as the wrapper does, its digit to a pipe; gives the process and the pipe."""
-    digits, to_program = os.pipe()
-
-    def descriptors():
-        os.dup2(to_program, 3)
-        if prepare:
-            prepare()
-
+    """Starts a compiled program as the wrapper does."""
     command = [binary or ROOT / "target" / "bin" / program, "status"]
-    process = start(command, prepare=descriptors, cwd=cwd, env=env, stdin=stdin, pass_fds=(3, to_program))
-    os.close(to_program)
-    return process, digits
-
-
-def finish_bare(process, digits):
-    """Waits for the end of a bare program: the digit is its exit status, as the wrapper has it."""
-    ran = finish(process)
-    digit = os.read(digits, 2)
-    os.close(digits)
-    if ran.status != 0:
-        return ran
-    return ran._replace(status=int(digit) if digit in (b"0", b"1", b"3") else f"digit {digit!r}")
+    return start(command, prepare=prepare, cwd=cwd, env=env, stdin=stdin)
 
 
 def feed(process, parts, pause=0.0):

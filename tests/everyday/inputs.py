@@ -110,12 +110,12 @@ def interrupted(program):
         return
     noted = drive.work / f"interrupted.{program}"
     env = {"LD_PRELOAD": str(library), "FAULT_ALARM": "1", "FAULT_INTERRUPTED": str(noted)}
-    process, digits = drive.bare(program, env, subprocess.PIPE)
+    process = drive.bare(program, env, subprocess.PIPE)
     many = 10000
     line = LINES[program].splitlines(keepends=True)[1]
     drive.feed(process, (LINES[program][:7], LINES[program][7:], line * many), 0.05)
     time.sleep(0.4)
-    ran = drive.finish_bare(process, digits)
+    ran = drive.finish(process)
     if program == "bill":
         want = HEADERS["bill"] + b"he\t1\t1\n-\t0\t%d\n" % (many + 1)
     elif program == "refused":

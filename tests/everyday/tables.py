@@ -107,9 +107,9 @@ def cut_off(program):
     for table in NAMES[program]:
         for after in {3, len(GOOD[f"{table}.tsv"].splitlines(keepends=True)[0]), len(GOOD[f"{table}.tsv"])}:
             env = {"LD_PRELOAD": str(library), "FAULT_NAME": f"{table}.tsv", "FAULT_AFTER": str(after)}
-            process, digits = drive.bare(program, env, subprocess.PIPE, cwd=folder)
+            process = drive.bare(program, env, subprocess.PIPE, cwd=folder)
             drive.feed(process, [LINES[program]])
-            ran = drive.finish_bare(process, digits)
+            ran = drive.finish(process)
             drive.ends(f"{program}: {table}.tsv fails after {after} bytes", ran, 1, no_rows(program), drive.said(program, f"{table}.tsv", errno.EIO))
 
 
@@ -124,9 +124,9 @@ def forbidden(program):
     for table in NAMES[program]:
         path = folder / f"{table}.tsv"
         path.chmod(0)
-        process, digits = drive.bare(program, {}, subprocess.PIPE, prepare, folder, binary)
+        process = drive.bare(program, {}, subprocess.PIPE, prepare, folder, binary)
         drive.feed(process, [LINES[program]])
-        ran = drive.finish_bare(process, digits)
+        ran = drive.finish(process)
         path.chmod(0o644)
         want = HEADERS[program] + WITHOUT[program, table]
         line = drive.said(program, f"{table}.tsv counts as zero bytes", errno.EACCES)

@@ -2,8 +2,9 @@
 // identifier), and prints the bill. Bytes after the last 0A are a line unless there are none. A bill whose input could not
 // be read to its end is not printed; a refused one reads no further. What failed, why a bill is refused, and how an input is
 // written that is not plain lines, is said on standard error.
+#![tactic(auto)]
+
 ghost use Rattle.std.specs.Prelude.{◌≡◌, List, [], ◌≤◌, length, take};
-ghost use Rattle.io.specs.Counts.{IsPrefixLen as Within};
 ghost use Rattle.standard.specs.Delivery.{Bytes};
 ghost use Rattle.table.specs.Hints.{Hinted};
 ghost use Rattle.operations.specs.Both.{TestedBoth};
@@ -16,7 +17,9 @@ use bill_lines::{Counts, add_hinted};
 use canonical::buffer::buffer;
 use program_io::input::Input;
 use program_io::warning::{say_bill, say_encoding};
-use program_io::{Run, Status, finish, input, load_table, output, status_of};
+use program_io::{Run, Status, Streams, end, finish, input, load_table, output};
+use std::io::Stderr;
+use std::process::ExitCode;
 use table::hints::{fill_hints, many};
 
 // The counts of the bill, and the input as it was read.
@@ -35,19 +38,20 @@ struct Made {
 }
 
 // Says once how an input is written whose first lines these are.
-fn mention(told: bool, lines: &[u8]) -> bool {
+fn mention(stderr: Stderr, told: bool, lines: &[u8]) -> bool {
     if told {
         return true;
     }
     if lines.len() == 0 {
         return false;
     }
-    say_encoding(b"bill", lines);
+    say_encoding(stderr, b"bill", lines);
     true
 }
 
 // Takes the input into the bill, to its end, or until reading fails or the bill is refused.
 fn take_input(
+    streams: Streams,
     from: Counts,
     aliases: &[u8],
     alias_hints: &[u16],
@@ -68,12 +72,12 @@ fn take_input(
     let mut c = from;
     let mut told = false;
     loop {
-        input = input::next(input, block, piece);
+        input = input::next(streams.stdin, input, block, piece);
         if input::has_failed(input) {
             return Billed { counts: c, input };
         }
         let whole = input::whole(input);
-        told = mention(told, &piece[..whole]);
+        told = mention(streams.stderr, told, &piece[..whole]);
         c = add_hinted(
             c,
             &piece[..whole],
@@ -110,6 +114,7 @@ fn count_room() -> [u64; 1024]
 
 // Takes the input into the bill over tables that passed their check: their hints and the rooms are made once.
 fn take_tested(
+    streams: Streams,
     from: Counts,
     aliases: &[u8],
     likely: &[u8],
@@ -128,15 +133,17 @@ fn take_tested(
     let mut piece = input::piece_buffer();
     let mut out = buffer();
     take_input(
-        from, aliases, &a, likely, &l, block, &mut piece, keys, counts, &mut out,
+        streams, from, aliases, &a, likely, &l, block, &mut piece, keys, counts, &mut out,
     )
 }
 
 // Makes the text of the bill at the front of the block; none where reading failed.
-fn make_text(aliases: &[u8], likely: &[u8], block: &mut [u8]) -> Made
+fn make_text(streams: Streams, aliases: &[u8], likely: &[u8], block: &mut [u8]) -> Made
     requires { (65536 ≤ length block.old) × (length block.old ≤ 262144) }
-    ensures { let block' = block.new in let aliases = aliases.entry.now in let likely = likely.entry.now in
-        Within result.len block' × ((bs : List Bytes) × Makes aliases likely bs result.number result.input (λ text. take result.len block' ≡ text)) }
+    ensures in_bounds { result.len ≤ length block.new }
+    ensures prefix { result.len ≡ length (take result.len block.new) }
+    ensures makes { let block' = block.new in let aliases = aliases.entry.now in let likely = likely.entry.now in
+        (bs : List Bytes) × Makes aliases likely bs result.number result.input (λ text. take result.len block' ≡ text) }
 {
     let mut keys = key_room();
     let mut counts = count_room();
@@ -149,7 +156,7 @@ fn make_text(aliases: &[u8], likely: &[u8], block: &mut [u8]) -> Made
             input: input::begin(),
         };
     }
-    let b = take_tested(c, aliases, likely, block, &mut keys, &mut counts);
+    let b = take_tested(streams, c, aliases, likely, block, &mut keys, &mut counts);
     let d = b.counts;
     let input = b.input;
     if input::has_failed(input) {
@@ -168,16 +175,16 @@ fn make_text(aliases: &[u8], likely: &[u8], block: &mut [u8]) -> Made
 }
 
 // Makes the bill and prints it; that it is refused is said.
-fn run(aliases: &[u8], likely: &[u8]) -> Run
+fn run(streams: Streams, aliases: &[u8], likely: &[u8]) -> Run
     ensures { (bs : List Bytes) × Makes aliases.now likely.now bs result.number result.input (IsPrinted result.output) }
 {
     let mut block = input::block_buffer();
-    let m = make_text(aliases, likely, &mut block);
+    let m = make_text(streams, aliases, likely, &mut block);
     let number = m.number;
     let input = m.input;
     let len = m.len;
-    let output = output::print(output::begin(), &block[..len]);
-    say_bill(b"bill", number);
+    let output = output::print(streams.stdout, output::begin(), &block[..len]);
+    say_bill(streams.stderr, b"bill", number);
     Run {
         number,
         input,
@@ -185,19 +192,24 @@ fn run(aliases: &[u8], likely: &[u8]) -> Run
     }
 }
 
-fn main() {
+fn main(rt: HostRuntime) -> ExitCode {
+    let streams = Streams {
+        stdin: rt.stdin(),
+        stdout: rt.stdout(),
+        stderr: rt.stderr(),
+    };
     let mut a = program_io::buffer();
     let mut l = program_io::buffer();
-    let x = load_table(b"bill", b"aliases.tsv", &mut a);
+    let x = load_table(&rt, streams.stderr, b"bill", "aliases.tsv", &mut a);
     if !x.read {
-        return finish(Status::Failed);
+        return finish(&rt, Status::Failed);
     }
-    let y = load_table(b"bill", b"likely.tsv", &mut l);
+    let y = load_table(&rt, streams.stderr, b"bill", "likely.tsv", &mut l);
     if !y.read {
-        return finish(Status::Failed);
+        return finish(&rt, Status::Failed);
     }
     let a_len = x.len;
     let l_len = y.len;
-    let r = run(&a[..a_len], &l[..l_len]);
-    finish(status_of(b"bill", r))
+    let r = run(streams, &a[..a_len], &l[..l_len]);
+    end(&rt, streams.stderr, b"bill", r)
 }

@@ -1,5 +1,5 @@
-// Public. The four functions for a host program in C, over lent bytes. An answer is one number: bits 0 to 7 the number, 8
-// to 15 the table, 16 to 31 the place, 32 to 55 the length, 56 to 63 the steps.
+// Public. The four functions for a host program in C, over lent bytes, which `c_api_c` exports. An answer is one number: bits
+// 0 to 7 the number, 8 to 15 the table, 16 to 31 the place, 32 to 55 the length, 56 to 63 the steps.
 #![tactic(auto)]
 
 ghost use Rattle.std.specs.Prelude.{◌≡◌, ◌<◌};
@@ -10,42 +10,28 @@ ghost use Rattle.c_api.specs.Packed.{packed, unpacked};
 use operations::delivery::Answer;
 
 // Canonicalises an identifier over a table of aliases.
-#[unsafe(no_mangle)]
-pub extern "C" fn altazhbey_canonicalise(id: &[u8], aliases: &[u8], out: &mut [u8]) -> u64
+pub fn altazhbey_canonicalise(id: &[u8], aliases: &[u8], out: &mut [u8]) -> u64
     ensures { unpacked result out.new ≡ given (canonicalise_made aliases.now id.now) out.old }
 {
     pack(altazhbey::canonicalise(id, aliases, out))
 }
 
 // Maximises an identifier over tables of aliases and of likely rows.
-#[unsafe(no_mangle)]
-pub extern "C" fn altazhbey_maximise(
-    id: &[u8],
-    aliases: &[u8],
-    likely: &[u8],
-    out: &mut [u8],
-) -> u64
+pub fn altazhbey_maximise(id: &[u8], aliases: &[u8], likely: &[u8], out: &mut [u8]) -> u64
     ensures { unpacked result out.new ≡ given (maximise_made aliases.now likely.now id.now) out.old }
 {
     pack(altazhbey::maximise(id, aliases, likely, out))
 }
 
 // Minimises an identifier over tables of aliases and of likely rows.
-#[unsafe(no_mangle)]
-pub extern "C" fn altazhbey_minimise(
-    id: &[u8],
-    aliases: &[u8],
-    likely: &[u8],
-    out: &mut [u8],
-) -> u64
+pub fn altazhbey_minimise(id: &[u8], aliases: &[u8], likely: &[u8], out: &mut [u8]) -> u64
     ensures { unpacked result out.new ≡ given (minimise_made aliases.now likely.now id.now) out.old }
 {
     pack(altazhbey::minimise(id, aliases, likely, out))
 }
 
 // Lists the chain of an identifier over tables of aliases and of parents.
-#[unsafe(no_mangle)]
-pub extern "C" fn altazhbey_chain(id: &[u8], aliases: &[u8], parents: &[u8], out: &mut [u8]) -> u64
+pub fn altazhbey_chain(id: &[u8], aliases: &[u8], parents: &[u8], out: &mut [u8]) -> u64
     ensures { unpacked result out.new ≡ given (list_made aliases.now parents.now id.now) out.old }
 {
     pack(altazhbey::chain(id, aliases, parents, out))

@@ -3,6 +3,8 @@
 // table then gives, after the header, its line and nothing else. Bytes after the last 0A are a line unless there are none. Of
 // a line only the first 260 bytes are kept: with more than 255 it is refused. What fails is said on standard error and ends
 // the run.
+#![tactic(auto)]
+
 ghost use Rattle.std.specs.Prelude.{◌≡◌, false, [], ◌≤◌, length};
 ghost use Rattle.standard.specs.Table.{check, to_maximise};
 ghost use Rattle.table.specs.Hints.{Hinted};
@@ -18,12 +20,17 @@ ghost use Rattle.inspect.specs.Header.{header};
 use operations::complete::form_buffer;
 use program_io::output::Output;
 use program_io::warning::say_tables;
-use program_io::{Run, Status, finish, input, load_table, output, status_of};
+use program_io::{Run, Status, Streams, end, finish, input, load_table, output};
+use std::env::Env;
+use std::io::Stdout;
+use std::process::ExitCode;
+use std::rt::Files;
 use table::hints::{fill_hints, many};
 use table_check::{Verdict, check_likely};
 
 // Prints the rows of the lines of a piece, as many at a time as have room in out; none after a write that failed.
 fn print_rows(
+    stdout: Stdout,
     from: Output,
     piece: &[u8],
     keyed: bool,
@@ -53,7 +60,7 @@ fn print_rows(
             out,
         );
         let len = k.len;
-        o = output::print(o, &out[..len]);
+        o = output::print(stdout, o, &out[..len]);
         if output::has_failed(o) {
             return o;
         }
@@ -64,6 +71,7 @@ fn print_rows(
 
 // Behind the header, reads to the end of the input, or until reading or printing fails.
 fn answer_input(
+    streams: Streams,
     from: Output,
     keyed: bool,
     aliases: &[u8],
@@ -84,7 +92,7 @@ fn answer_input(
     let mut input = input::begin();
     let mut output = from;
     loop {
-        input = input::next(input, block, piece);
+        input = input::next(streams.stdin, input, block, piece);
         if input::has_failed(input) {
             return Run {
                 number: 0,
@@ -94,6 +102,7 @@ fn answer_input(
         }
         let whole = input::whole(input);
         output = print_rows(
+            streams.stdout,
             output,
             &piece[..whole],
             keyed,
@@ -121,8 +130,15 @@ fn answer_input(
     }
 }
 
+// Room for the rows of a piece.
+fn out_buffer() -> [u8; 65536]
+    ensures { 65536 ≡ length result }
+{
+    [0; 65536]
+}
+
 // Answers the input over tables that passed their check; their hints and the rooms are made once.
-fn answer(from: Output, keyed: bool, aliases: &[u8], likely: &[u8]) -> Run
+fn answer(streams: Streams, from: Output, keyed: bool, aliases: &[u8], likely: &[u8]) -> Run
     requires { TestedBoth aliases.now likely.now × Headed header from }
     ensures { Replies (Answers (headed header (rows_text (line_row keyed aliases.now likely.now)))) result }
 {
@@ -133,18 +149,19 @@ fn answer(from: Output, keyed: bool, aliases: &[u8], likely: &[u8]) -> Run
     let mut form = form_buffer();
     let mut block = input::block_buffer();
     let mut piece = input::piece_buffer();
-    let mut out = io::large_buffer();
+    let mut out = out_buffer();
     answer_input(
-        from, keyed, aliases, &a, likely, &l, &mut form, &mut block, &mut piece, &mut out,
+        streams, from, keyed, aliases, &a, likely, &l, &mut form, &mut block, &mut piece, &mut out,
     )
 }
 
 // Prints the header, tests the tables, and answers the input.
-fn run(keyed: bool, aliases: &[u8], likely: &[u8]) -> Run
+fn run(streams: Streams, keyed: bool, aliases: &[u8], likely: &[u8]) -> Run
     ensures { let aliases = aliases.entry.now in let likely = likely.entry.now in
         Runs header (Answers (headed header (rows_text (line_row keyed aliases likely)))) (check to_maximise aliases likely []) result }
 {
     let o = output::print(
+        streams.stdout,
         output::begin(),
         b"asked\tnumber\tplace\tlanguage\tscript\tregion\tvariants\textensions\tmeaning\n",
     );
@@ -157,45 +174,52 @@ fn run(keyed: bool, aliases: &[u8], likely: &[u8]) -> Run
     }
     let v = check_likely(aliases, likely);
     if let Verdict::Bad(number, place, table) = v {
-        let output = program_io::print_table(o, number, place, table);
-        say_tables(b"inspect", number);
+        let output = program_io::print_table(streams.stdout, o, number, place, table);
+        say_tables(streams.stderr, b"inspect", number);
         return Run {
             number,
             input: input::begin(),
             output,
         };
     }
-    answer(o, keyed, aliases, likely)
+    answer(streams, o, keyed, aliases, likely)
 }
 
 // Has the current folder one of the two tables, even one that can't be opened?
-fn has_tables() -> bool {
-    if program_io::exists(b"aliases.tsv") {
+fn has_tables(rt: &impl Files) -> bool {
+    if program_io::exists(rt, "aliases.tsv") {
         return true;
     }
-    program_io::exists(b"likely.tsv")
+    program_io::exists(rt, "likely.tsv")
 }
 
 // With the tables of the current folder.
-fn run_keyed() -> Status {
+fn run_keyed(rt: &(impl Files + Env), streams: Streams) -> ExitCode {
     let mut a = program_io::buffer();
     let mut l = program_io::buffer();
-    let x = load_table(b"inspect", b"aliases.tsv", &mut a);
+    let x = load_table(rt, streams.stderr, b"inspect", "aliases.tsv", &mut a);
     if !x.read {
-        return Status::Failed;
+        return finish(rt, Status::Failed);
     }
-    let y = load_table(b"inspect", b"likely.tsv", &mut l);
+    let y = load_table(rt, streams.stderr, b"inspect", "likely.tsv", &mut l);
     if !y.read {
-        return Status::Failed;
+        return finish(rt, Status::Failed);
     }
     let a_len = x.len;
     let l_len = y.len;
-    status_of(b"inspect", run(true, &a[..a_len], &l[..l_len]))
+    let r = run(streams, true, &a[..a_len], &l[..l_len]);
+    end(rt, streams.stderr, b"inspect", r)
 }
 
-fn main() {
-    if has_tables() {
-        return finish(run_keyed());
+fn main(rt: HostRuntime) -> ExitCode {
+    let streams = Streams {
+        stdin: rt.stdin(),
+        stdout: rt.stdout(),
+        stderr: rt.stderr(),
+    };
+    if has_tables(&rt) {
+        return run_keyed(&rt, streams);
     }
-    finish(status_of(b"inspect", run(false, b"", b"")))
+    let r = run(streams, false, b"", b"");
+    end(&rt, streams.stderr, b"inspect", r)
 }

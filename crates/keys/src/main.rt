@@ -2,6 +2,8 @@
 // each what was asked, the number and the minimised form, parted by tabs. Bytes after the last 0A are a line unless there
 // are none. A bad table gives, after the header, its line and nothing else. What fails is said on standard error and ends the
 // run.
+#![tactic(auto)]
+
 ghost use Rattle.std.specs.Prelude.{◌≡◌, false, [], ◌≤◌, length};
 ghost use Rattle.standard.specs.Table.{check, to_maximise};
 ghost use Rattle.table.specs.Hints.{Hinted};
@@ -17,12 +19,15 @@ ghost use Rattle.table.specs.Lines.{lines};
 use operations::complete::form_buffer;
 use program_io::output::Output;
 use program_io::warning::say_tables;
-use program_io::{Run, Status, finish, input, load_table, output, status_of};
+use program_io::{Run, Status, Streams, end, finish, input, load_table, output};
+use std::io::Stdout;
+use std::process::ExitCode;
 use table::hints::{fill_hints, many};
 use table_check::{Verdict, check_likely};
 
 // Prints the rows of the lines of a piece, as many at a time as have room in out; none after a write that failed.
 fn print_rows(
+    stdout: Stdout,
     from: Output,
     piece: &[u8],
     aliases: &[u8],
@@ -50,7 +55,7 @@ fn print_rows(
             out,
         );
         let len = k.len;
-        o = output::print(o, &out[..len]);
+        o = output::print(stdout, o, &out[..len]);
         if output::has_failed(o) {
             return o;
         }
@@ -61,6 +66,7 @@ fn print_rows(
 
 // Behind the header, reads to the end of the input, or until reading or printing fails.
 fn answer_input(
+    streams: Streams,
     from: Output,
     aliases: &[u8],
     alias_hints: &[u16],
@@ -79,7 +85,7 @@ fn answer_input(
     let mut input = input::begin();
     let mut output = from;
     loop {
-        input = input::next(input, block, piece);
+        input = input::next(streams.stdin, input, block, piece);
         if input::has_failed(input) {
             return Run {
                 number: 0,
@@ -89,6 +95,7 @@ fn answer_input(
         }
         let whole = input::whole(input);
         output = print_rows(
+            streams.stdout,
             output,
             &piece[..whole],
             aliases,
@@ -123,7 +130,7 @@ fn out_buffer() -> [u8; 786432]
 }
 
 // Answers the input over tables that passed their check; their hints and the rooms are made once.
-fn answer(from: Output, aliases: &[u8], likely: &[u8]) -> Run
+fn answer(streams: Streams, from: Output, aliases: &[u8], likely: &[u8]) -> Run
     requires { TestedBoth aliases.now likely.now × Headed header from }
     ensures { Replies (Answers (headed header (rows_text (key_row aliases.now likely.now)))) result }
 {
@@ -136,16 +143,16 @@ fn answer(from: Output, aliases: &[u8], likely: &[u8]) -> Run
     let mut piece = input::piece_buffer();
     let mut out = out_buffer();
     answer_input(
-        from, aliases, &a, likely, &l, &mut form, &mut block, &mut piece, &mut out,
+        streams, from, aliases, &a, likely, &l, &mut form, &mut block, &mut piece, &mut out,
     )
 }
 
 // Prints the header, tests the tables, and answers the input.
-fn run(aliases: &[u8], likely: &[u8]) -> Run
+fn run(streams: Streams, aliases: &[u8], likely: &[u8]) -> Run
     ensures { let aliases = aliases.entry.now in let likely = likely.entry.now in
         Runs header (Answers (headed header (rows_text (key_row aliases likely)))) (check to_maximise aliases likely []) result }
 {
-    let o = output::print(output::begin(), b"asked\tnumber\tkept\n");
+    let o = output::print(streams.stdout, output::begin(), b"asked\tnumber\tkept\n");
     if output::has_failed(o) {
         return Run {
             number: 0,
@@ -155,30 +162,35 @@ fn run(aliases: &[u8], likely: &[u8]) -> Run
     }
     let v = check_likely(aliases, likely);
     if let Verdict::Bad(number, place, table) = v {
-        let output = program_io::print_table(o, number, place, table);
-        say_tables(b"keys", number);
+        let output = program_io::print_table(streams.stdout, o, number, place, table);
+        say_tables(streams.stderr, b"keys", number);
         return Run {
             number,
             input: input::begin(),
             output,
         };
     }
-    answer(o, aliases, likely)
+    answer(streams, o, aliases, likely)
 }
 
-fn main() {
+fn main(rt: HostRuntime) -> ExitCode {
+    let streams = Streams {
+        stdin: rt.stdin(),
+        stdout: rt.stdout(),
+        stderr: rt.stderr(),
+    };
     let mut a = program_io::buffer();
     let mut l = program_io::buffer();
-    let x = load_table(b"keys", b"aliases.tsv", &mut a);
+    let x = load_table(&rt, streams.stderr, b"keys", "aliases.tsv", &mut a);
     if !x.read {
-        return finish(Status::Failed);
+        return finish(&rt, Status::Failed);
     }
-    let y = load_table(b"keys", b"likely.tsv", &mut l);
+    let y = load_table(&rt, streams.stderr, b"keys", "likely.tsv", &mut l);
     if !y.read {
-        return finish(Status::Failed);
+        return finish(&rt, Status::Failed);
     }
     let a_len = x.len;
     let l_len = y.len;
-    let r = run(&a[..a_len], &l[..l_len]);
-    finish(status_of(b"keys", r))
+    let r = run(streams, &a[..a_len], &l[..l_len]);
+    end(&rt, streams.stderr, b"keys", r)
 }

@@ -1,5 +1,5 @@
 -- Laws of what a program did. Assumes nothing.
-use Rattle.std.proofs.Common.{◌≡◌, ℕ, ◌+◌, ◌%◌, ◌^◌, true, false, List, [], ◌++◌, length, sym, refl, ap, ◌∙◌, subst, inl, inr, arith, length-append}
+use Rattle.std.proofs.Common.{◌≡◌, ℕ, ◌+◌, ◌%◌, ◌^◌, true, false, List, [], ◌++◌, length, sym, ap, ◌∙◌, subst, inl, inr, arith, length-append}
 use mathlib.Core.Option.{Option, none, some}
 use Rattle.standard.specs.Table.{TableFault}
 use Rattle.tsv.specs.Fields.{table_text}
@@ -9,7 +9,7 @@ use Rattle.program_io.specs.declared.input.Input.{Input}
 use Rattle.program_io.specs.declared.output.Output.{Output}
 use Rattle.program_io.specs.Handed.{is_failure, Going, Read}
 use Rattle.program_io.specs.Printed.{Prints, IsPrinted}
-use Rattle.program_io.specs.Runs.{Unheaded, Refuses, Replies, RunsBy, Runs}
+use Rattle.program_io.specs.Runs.{RunsBy, Runs}
 use Rattle.program_io.proofs.Printing.{counted}
 
 -- nothing was read

@@ -1,15 +1,15 @@
 -- What the answers of the operating system mean. Assumes nothing.
-use Rattle.std.specs.Prelude.{ℕ, zero, suc, ◌<◌, ◌≤◌, ℤ, pos, negsuc}
+use Rattle.std.specs.Prelude.{ℕ, zero, suc, ◌<◌, ◌≤◌, Result, Ok, Err}
 use Rattle.program_io.specs.declared.system.Moved.{Moved}
 use Rattle.program_io.specs.declared.system.Moved.TheVariants.{Bytes, None, Failed}
 use Rattle.program_io.specs.declared.Loaded.{Loaded}
 use Rattle.program_io.specs.declared.Loaded.TheVariants.{Bytes as Read, Missing, Failed as Unread}
 
--- POSIX: a call answers how many bytes it moved, 0 where there are none, or -1 where it failed
-abbrev pub told_by : ℤ → Moved
-told_by (pos zero) = None
-told_by (pos (suc n)) = Bytes (suc n)
-told_by (negsuc k) = Failed
+-- std: a call answers how many bytes it moved, 0 where there are none, or an error where it failed
+abbrev pub told_by : {E : Type 0} → Result ℕ E → Moved
+told_by (Ok zero) = None
+told_by (Ok (suc n)) = Bytes (suc n)
+told_by (Err e) = Failed
 
 -- the bytes that were moved are some, and at most n
 abbrev pub Fits : Moved → ℕ → Type 0

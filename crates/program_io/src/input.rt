@@ -7,8 +7,8 @@ ghost use Rattle.program_io.specs.Handed.{Room, Going, Handed, Counted, is_end, 
 
 use crate::system;
 use crate::system::Moved;
-use libc::STDIN_FILENO;
 use lines::Taken;
+use std::io::Stdin;
 
 // What reading once more gave: a block, the end of the input, or a failure.
 #[derive(Clone, Copy)]
@@ -18,14 +18,15 @@ pub enum Last {
     Failure,
 }
 
-// Where the lines of the piece end; how many bytes of the block were read last, and how many in all; and what the last
-// reading gave. Only `begin` and `next` make one, so a program that has one which ended has read to the end.
+// Where the lines of the piece end; how many bytes of the block were read last, and how many in all; what the last reading
+// gave, and where it failed the system's number for why. Only `begin` and `next` make one, so a program that has one which ended has read to the end.
 #[derive(Clone, Copy)]
 pub struct Input {
     taken: Taken,
     got: usize,
     bytes: usize,
     last: Last,
+    pub(crate) cause: i32,
 }
 
 // Room for a block of input.
@@ -52,6 +53,7 @@ pub fn begin() -> Input
         got: 0,
         bytes: 0,
         last: Last::Block,
+        cause: 0,
     }
 }
 
@@ -116,24 +118,26 @@ fn got_of(m: Moved) -> Got
 
 // Reads a block. That it calls the operating system, no promise can say. A proved loop has to end: at 2^64 bytes, which no
 // run reads, reading fails.
-fn read_block(bytes: usize, block: &mut [u8]) -> Got
+fn read_block(stdin: Stdin, bytes: usize, block: &mut [u8], cause: &mut i32) -> Got
     ensures { GotWithin result (length block.old) × (bytes + result.len ≤ 18446744073709551615) }
 {
     if usize::MAX - bytes < block.len() {
         return got_of(Moved::Failed);
     }
-    got_of(system::read(STDIN_FILENO, block))
+    let mut from = stdin;
+    got_of(system::read(&mut from, block, cause))
 }
 
 // Reads the next block: its whole lines stand at the front of the piece, and the unfinished one behind them; at the end of
 // the input the unfinished line stands there. After a failure nothing is said of what stands there.
-pub fn next(i: Input, block: &mut [u8], piece: &mut [u8]) -> Input
+pub fn next(stdin: Stdin, i: Input, block: &mut [u8], piece: &mut [u8]) -> Input
     requires { Placed i.taken (length piece.old) × Room (length block.old) (length piece.old) }
     ensures { Placed result.taken (length piece.old) × Counted i result (length block.old)
         × ((bs : List Bytes) → Going bs i piece.old → Handed bs (take result.got block.new) result piece.new) }
 {
     let before = i.taken;
-    let g = read_block(i.bytes, block);
+    let mut cause = 0;
+    let g = read_block(stdin, i.bytes, block, &mut cause);
     let got = g.len;
     let last = g.last;
     let taken = lines::next_piece(before, &block[..got], piece);
@@ -142,5 +146,6 @@ pub fn next(i: Input, block: &mut [u8], piece: &mut [u8]) -> Input
         got,
         bytes: i.bytes + got,
         last,
+        cause,
     }
 }

@@ -1,21 +1,29 @@
 // Inner, for the programs, and the one library that calls the operating system: tables of the current folder, standard
 // input and output, what is said on standard error, and the status that a run ends with. A failure is always said.
+#![tactic(auto)]
+
 pub mod input;
 pub mod output;
 pub mod system;
 pub mod warning;
 
-ghost use Rattle.std.specs.Prelude.{◌≡◌, true, false, length};
-ghost use Rattle.io.specs.Counts.{IsPrefixLen};
+ghost use Rattle.std.specs.Prelude.{◌≡◌, ◌≤◌, true, false, length, take};
 ghost use Rattle.tsv.specs.Fields.{table_text};
 ghost use Rattle.program_io.specs.Calls.{loaded_by, LoadedWithin};
 ghost use Rattle.program_io.specs.Printed.{Prints};
-ghost use Rattle.program_io.specs.Status.{digit_of, status_of};
+ghost use Rattle.program_io.specs.Status.{digit_of, status_of, EndsAs, Ends};
+ghost use Rattle.std.specs.Process.{exit_status};
 
 use crate::input::Input;
 use crate::output::Output;
-use crate::system::{Moved, write_all};
-use libc::{ELOOP, ENOENT, STDERR_FILENO};
+pub use crate::system::Streams;
+use crate::system::{Moved, cause_of, tell};
+use std::env::{Env, FillError};
+use std::fmt::InlineText;
+use std::fs;
+use std::io::{Error, ErrorKind, Read, Stderr, Stdout};
+use std::process::ExitCode;
+use std::rt::Files;
 use tsv::table_line;
 
 // One byte more than a table may have, so that no table is cut to one that passes.
@@ -26,19 +34,31 @@ pub fn buffer() -> [u8; 32769]
 }
 
 // Says a line on standard error.
-pub fn say(program: &[u8], what: &[u8]) {
-    write_all(STDERR_FILENO, program);
-    write_all(STDERR_FILENO, b": ");
-    write_all(STDERR_FILENO, what);
-    write_all(STDERR_FILENO, b"\n");
+pub fn say(stderr: Stderr, program: &[u8], what: &[u8]) {
+    tell(stderr, program);
+    tell(stderr, b": ");
+    tell(stderr, what);
+    tell(stderr, b"\n");
 }
 
 // Says there what a call that failed was for, what follows from it, and why it failed by the system's words.
-fn say_failed(program: &[u8], what: &[u8], so: &[u8]) {
-    write_all(STDERR_FILENO, program);
-    write_all(STDERR_FILENO, b": ");
-    write_all(STDERR_FILENO, what);
-    os::fail(so);
+fn say_failed(stderr: Stderr, program: &[u8], what: &[u8], so: &[u8], cause: i32) {
+    tell(stderr, program);
+    tell(stderr, b": ");
+    tell(stderr, what);
+    tell(stderr, so);
+    tell(stderr, b": ");
+    let text = InlineText::<128>::of(Error::from_raw_os_error(cause));
+    tell(stderr, words_of(text.as_str()).as_bytes());
+    tell(stderr, b"\n");
+}
+
+// The system's words for an error, without its number, which std puts behind them.
+fn words_of(text: &str) -> &str {
+    match text.split_once(" (os error ") {
+        Some((words, _)) => words,
+        None => text,
+    }
 }
 
 // How many bytes of a file were read: all, or as many as there is room for; that it can't be opened; or that it can't be
@@ -62,12 +82,12 @@ fn ended(m: Moved, len: usize) -> Loaded
 }
 
 // Fills the buffer, up to its end or the file's.
-fn fill(fd: i32, buffer: &mut [u8]) -> Loaded
+fn fill<R: Read>(from: &mut R, buffer: &mut [u8], cause: &mut i32) -> Loaded
     ensures { LoadedWithin result (length buffer.old) }
 {
     let mut len = 0;
     while len < buffer.len() {
-        let m = system::read(fd, &mut buffer[len..]);
+        let m = system::read(from, &mut buffer[len..], cause);
         let Moved::Bytes(n) = m else {
             return ended(m, len);
         };
@@ -76,31 +96,28 @@ fn fill(fd: i32, buffer: &mut [u8]) -> Loaded
     Loaded::Bytes(len)
 }
 
-// Reads the file into the buffer.
-fn load(path: &[u8], buffer: &mut [u8]) -> Loaded
+// Reads the file into the buffer; the cause is why it can't be opened or read.
+fn load<R: Files>(rt: &R, path: &str, buffer: &mut [u8], cause: &mut i32) -> Loaded
     ensures { LoadedWithin result (length buffer.old) }
 {
-    let fd = system::open(path);
-    if fd < 0 {
-        return Loaded::Missing;
+    match fs::open(rt, path) {
+        Ok(mut file) => fill(&mut file, buffer, cause),
+        Err(e) => {
+            *cause = cause_of(&e);
+            Loaded::Missing
+        }
     }
-    let r = fill(fd, buffer);
-    libc::close(fd);
-    r
 }
 
 // Is there such a file, whether or not it can be opened? A link that leads nowhere is none.
-pub fn exists(path: &[u8]) -> bool {
-    let fd = system::open(path);
-    if fd >= 0 {
-        libc::close(fd);
-        return true;
+pub fn exists(rt: &impl Files, path: &str) -> bool {
+    match fs::open(rt, path) {
+        Ok(_) => true,
+        Err(e) => {
+            let kind = e.kind();
+            kind != ErrorKind::NotFound && kind != ErrorKind::FilesystemLoop
+        }
     }
-    let error = os::errno();
-    if error == ENOENT {
-        return false;
-    }
-    error != ELOOP
 }
 
 // The length of a table, and whether it was read.
@@ -112,30 +129,44 @@ pub struct Table {
 
 // Reads a table of the current folder into the buffer. One that can't be opened counts as zero bytes, and is named; one that
 // can't be read is no table.
-pub fn load_table(program: &[u8], name: &[u8], buffer: &mut [u8]) -> Table
-    ensures { IsPrefixLen result.len buffer.new }
+pub fn load_table(
+    rt: &impl Files,
+    stderr: Stderr,
+    program: &[u8],
+    name: &str,
+    buffer: &mut [u8],
+) -> Table
+    ensures in_bounds { result.len ≤ length buffer.new }
+    ensures prefix { result.len ≡ length (take result.len buffer.new) }
 {
-    let r = load(name, buffer);
+    let mut cause = 0;
+    let r = load(rt, name, buffer, &mut cause);
     match r {
         Loaded::Bytes(len) => Table { len, read: true },
-        Loaded::Missing => missing(program, name),
-        Loaded::Failed => unread(program, name),
+        Loaded::Missing => missing(stderr, program, name, cause),
+        Loaded::Failed => unread(stderr, program, name, cause),
     }
 }
 
 // A table of zero bytes, and a line that says so.
-fn missing(program: &[u8], name: &[u8]) -> Table
+fn missing(stderr: Stderr, program: &[u8], name: &str, cause: i32) -> Table
     ensures { (result.len ≡ 0) × (result.read ≡ true) }
 {
-    say_failed(program, name, b" counts as zero bytes");
+    say_failed(
+        stderr,
+        program,
+        name.as_bytes(),
+        b" counts as zero bytes",
+        cause,
+    );
     Table { len: 0, read: true }
 }
 
 // No table, and a line that says so.
-fn unread(program: &[u8], name: &[u8]) -> Table
+fn unread(stderr: Stderr, program: &[u8], name: &str, cause: i32) -> Table
     ensures { (result.len ≡ 0) × (result.read ≡ false) }
 {
-    say_failed(program, name, b"");
+    say_failed(stderr, program, name.as_bytes(), b"", cause);
     Table {
         len: 0,
         read: false,
@@ -143,13 +174,13 @@ fn unread(program: &[u8], name: &[u8]) -> Table
 }
 
 // Prints the line of the tables' check: `table`, number, table, place.
-pub fn print_table(o: Output, number: u8, place: usize, table: u8) -> Output
+pub fn print_table(stdout: Stdout, o: Output, number: u8, place: usize, table: u8) -> Output
     ensures { Prints o (length (table_text number place table)) result }
 {
     let t = table_line(number, place, table);
     let len = t.len;
     let bytes = t.bytes;
-    output::print(o, &bytes[..len])
+    output::print(stdout, o, &bytes[..len])
 }
 
 // A run: 0, or the number of refused tables or of a refused bill; the input as it was read, and the output as it was printed.
@@ -169,18 +200,18 @@ pub enum Status {
 }
 
 // What the run came to; a failure is said.
-pub fn status_of(program: &[u8], r: Run) -> Status
+pub fn status_of(stderr: Stderr, program: &[u8], r: Run) -> Status
     ensures { result ≡ status_of r.number r.input.last r.output.failed }
 {
     if output::has_failed(r.output) {
-        say_failed(program, b"standard output", b"");
+        say_failed(stderr, program, b"standard output", b"", r.output.cause);
         return Status::Failed;
     }
     if r.number != 0 {
         return Status::Refused;
     }
     if input::has_failed(r.input) {
-        say_failed(program, b"standard input", b"");
+        say_failed(stderr, program, b"standard input", b"", r.input.cause);
         return Status::Failed;
     }
     Status::Done
@@ -197,12 +228,32 @@ fn digit_of(s: Status) -> u8
     }
 }
 
-// Ends a run. A program has no exit status of its own: one that was started with an argument writes it to descriptor 3, for
-// the script that started it.
-pub fn finish(s: Status) {
-    if os::arg_count() < 2 {
-        return;
+// Was the program started with an argument?
+fn has_argument(rt: &impl Env) -> bool {
+    match rt.arg(1, &mut []) {
+        Ok(_) => true,
+        Err(FillError::TooLong) => true,
+        Err(FillError::NotPresent) => false,
     }
-    let digit = [digit_of(s)];
-    write_all(3, &digit);
+}
+
+// Ends a run: a program that was started with an argument has the status by its digit, another has 0.
+pub fn finish(rt: &impl Env, s: Status) -> ExitCode
+    ensures { EndsAs s (exit_status result) }
+{
+    if !has_argument(rt) {
+        return ExitCode::SUCCESS;
+    }
+    ExitCode::from(digit_of(s) - b'0')
+}
+
+// Ends a run by what it came to. Where nobody reads the output any more, it ends without a word, with the status that a
+// shell gives a program which SIGPIPE ended.
+pub fn end(rt: &impl Env, stderr: Stderr, program: &[u8], r: Run) -> ExitCode
+    ensures { Ends r.number r.input.last r.output.failed (exit_status result) }
+{
+    if output::is_unread(r.output) {
+        return ExitCode::from(141);
+    }
+    finish(rt, status_of(stderr, program, r))
 }

@@ -1,10 +1,18 @@
 // Calls of the operating system, tried again where a signal interrupted them. What it did, no promise can say; what its
 // answers mean, `told` settles.
 ghost use Rattle.std.specs.Prelude.{◌≡◌, length};
-ghost use Rattle.libc.specs.Io.{Moved as Answers};
 ghost use Rattle.program_io.specs.Calls.{told_by, Fits};
 
-use libc::EINTR;
+use std::io;
+use std::io::{ErrorKind, Read, Stderr, Stdin, Stdout, Write};
+
+// The three streams of a run, which its `main` has of its runtime.
+#[derive(Clone, Copy)]
+pub struct Streams {
+    pub stdin: Stdin,
+    pub stdout: Stdout,
+    pub stderr: Stderr,
+}
 
 // What a call that moves bytes says: how many it moved, that there are none (the end of a file), or that it failed.
 #[derive(Clone, Copy)]
@@ -14,67 +22,78 @@ pub enum Moved {
     Failed,
 }
 
-// What the answer of a call means, which was lent so many bytes: -1 is a failure, 0 the end.
-fn told(got: isize, buf: &[u8]) -> Moved
-    requires { Answers (length buf.now) got }
-    ensures { result ≡ told_by got }
+// What the answer of a call means: an error is a failure, 0 the end.
+fn told(got: &io::Result<usize>) -> Moved
+    ensures { result ≡ told_by got.now }
 {
-    if got == -1 {
-        return Moved::Failed;
+    match got {
+        Ok(0) => Moved::None,
+        Ok(n) => Moved::Bytes(*n),
+        Err(_) => Moved::Failed,
     }
-    let n = io::count(got, buf);
-    if n == 0 {
-        return Moved::None;
-    }
-    Moved::Bytes(n)
 }
 
 // Did a signal interrupt the call that said this?
-fn is_interrupted(m: Moved) -> bool {
-    match m {
-        Moved::Bytes(_) => false,
-        Moved::None => false,
-        Moved::Failed => os::errno() == EINTR,
+fn is_interrupted(got: &io::Result<usize>) -> bool {
+    match got {
+        Ok(_) => false,
+        Err(e) => e.kind() == ErrorKind::Interrupted,
     }
 }
 
-// Reads into buf.
-pub(crate) fn read(fd: i32, buf: &mut [u8]) -> Moved
+// The system's number for why a call failed; 0 where it did not.
+pub(crate) fn cause_of(e: &io::Error) -> i32 {
+    match e.raw_os_error() {
+        Some(code) => code,
+        None => 0,
+    }
+}
+
+// The same of the call that said this.
+fn cause_in(got: &io::Result<usize>) -> i32 {
+    match got {
+        Ok(_) => 0,
+        Err(e) => cause_of(e),
+    }
+}
+
+// Reads into buf; the cause is why that failed.
+pub(crate) fn read<R: Read>(from: &mut R, buf: &mut [u8], cause: &mut i32) -> Moved
     ensures { Fits result (length buf.old) }
 {
     let mut left = u64::MAX;
     while left > 0 {
-        let got = libc::read(fd, buf);
-        let m = told(got, buf);
-        if !is_interrupted(m) {
-            return m;
+        let got = from.read(buf);
+        if !is_interrupted(&got) {
+            *cause = cause_in(&got);
+            return told(&got);
         }
         left -= 1;
     }
     Moved::Failed
 }
 
-// Writes the front of buf.
-fn write(fd: i32, buf: &[u8]) -> Moved
+// Writes the front of buf; the cause is why that failed.
+fn write<W: Write>(to: &mut W, buf: &[u8], cause: &mut i32) -> Moved
     ensures { Fits result (length buf.now) }
 {
     let mut left = u64::MAX;
     while left > 0 {
-        let got = libc::write(fd, buf);
-        let m = told(got, buf);
-        if !is_interrupted(m) {
-            return m;
+        let got = to.write(buf);
+        if !is_interrupted(&got) {
+            *cause = cause_in(&got);
+            return told(&got);
         }
         left -= 1;
     }
     Moved::Failed
 }
 
-// Writes all of buf, and answers whether it could.
-pub(crate) fn write_all(fd: i32, buf: &[u8]) -> bool {
+// Writes all of buf, and answers whether it could; the cause is why not.
+pub(crate) fn write_all<W: Write>(to: &mut W, buf: &[u8], cause: &mut i32) -> bool {
     let mut from = 0;
     while from < buf.len() {
-        let m = write(fd, &buf[from..]);
+        let m = write(to, &buf[from..], cause);
         let Moved::Bytes(n) = m else {
             return false;
         };
@@ -83,18 +102,9 @@ pub(crate) fn write_all(fd: i32, buf: &[u8]) -> bool {
     true
 }
 
-// Opens the file for reading, and answers a descriptor, or -1.
-pub(crate) fn open(path: &[u8]) -> i32 {
-    let mut left = u64::MAX;
-    while left > 0 {
-        let fd = os::open_read(path);
-        if fd >= 0 {
-            return fd;
-        }
-        if os::errno() != EINTR {
-            return fd;
-        }
-        left -= 1;
-    }
-    -1
+// Writes all of a text on standard error; a failure there is nowhere to be said.
+pub(crate) fn tell(stderr: Stderr, text: &[u8]) {
+    let mut to = stderr;
+    let mut cause = 0;
+    write_all(&mut to, text, &mut cause);
 }

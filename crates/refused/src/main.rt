@@ -2,6 +2,8 @@
 // row for each line that the bill counts as refused: the line's number, the member, number and place of the refusal, the
 // identifier and the meaning, parted by tabs. A bad table gives, after the header, its line and nothing else. What fails is
 // said on standard error and ends the run; an input that is not written plainly is named there.
+#![tactic(auto)]
+
 ghost use Rattle.std.specs.Prelude.{◌≡◌, false, [], ◌≤◌, length};
 ghost use Rattle.standard.specs.Table.{check, to_maximise};
 ghost use Rattle.table.specs.Hints.{Hinted};
@@ -18,7 +20,9 @@ ghost use Rattle.refused.specs.Lists.{Lists};
 use operations::complete::form_buffer;
 use program_io::output::Output;
 use program_io::warning::{say_encoding, say_tables};
-use program_io::{Run, Status, finish, input, load_table, output, status_of};
+use program_io::{Run, Status, Streams, end, finish, input, load_table, output};
+use std::io::{Stderr, Stdout};
+use std::process::ExitCode;
 use table::hints::{fill_hints, many};
 use table_check::{Verdict, check_likely};
 
@@ -32,6 +36,7 @@ struct Printed {
 // Prints the rows of the refused lines of a piece whose first line has the number `first`, as many at a time as have room in
 // out; none after a write that failed.
 fn print_rows(
+    stdout: Stdout,
     from: Output,
     first: usize,
     piece: &[u8],
@@ -64,7 +69,7 @@ fn print_rows(
             out,
         );
         let len = k.len;
-        o = output::print(o, &out[..len]);
+        o = output::print(stdout, o, &out[..len]);
         next = k.next;
         if output::has_failed(o) {
             return Printed { output: o, next };
@@ -76,6 +81,7 @@ fn print_rows(
 
 // Behind the header, reads to the end of the input, or until reading or printing fails. The first lines show how the input is written.
 fn answer_input(
+    streams: Streams,
     from: Output,
     aliases: &[u8],
     alias_hints: &[u16],
@@ -95,7 +101,7 @@ fn answer_input(
     let mut output = from;
     let mut next = 1;
     loop {
-        input = input::next(input, block, piece);
+        input = input::next(streams.stdin, input, block, piece);
         if input::has_failed(input) {
             return Run {
                 number: 0,
@@ -104,8 +110,9 @@ fn answer_input(
             };
         }
         let whole = input::whole(input);
-        say_first(next, &piece[..whole]);
+        say_first(streams.stderr, next, &piece[..whole]);
         let p = print_rows(
+            streams.stdout,
             output,
             next,
             &piece[..whole],
@@ -137,9 +144,9 @@ fn answer_input(
 }
 
 // Says of the first lines how they are written, where they can't be read as they are meant.
-fn say_first(next: usize, lines: &[u8]) {
+fn say_first(stderr: Stderr, next: usize, lines: &[u8]) {
     if next == 1 {
-        say_encoding(b"refused", lines);
+        say_encoding(stderr, b"refused", lines);
     }
 }
 
@@ -151,7 +158,7 @@ fn out_buffer() -> [u8; 262144]
 }
 
 // Answers the input over tables that passed their check; their hints and the rooms are made once.
-fn answer(from: Output, aliases: &[u8], likely: &[u8]) -> Run
+fn answer(streams: Streams, from: Output, aliases: &[u8], likely: &[u8]) -> Run
     requires { TestedBoth aliases.now likely.now × Headed header from }
     ensures { Replies (Lists aliases.now likely.now) result }
 {
@@ -164,16 +171,17 @@ fn answer(from: Output, aliases: &[u8], likely: &[u8]) -> Run
     let mut piece = input::piece_buffer();
     let mut out = out_buffer();
     answer_input(
-        from, aliases, &a, likely, &l, &mut form, &mut block, &mut piece, &mut out,
+        streams, from, aliases, &a, likely, &l, &mut form, &mut block, &mut piece, &mut out,
     )
 }
 
 // Prints the header, tests the tables, and answers the input.
-fn run(aliases: &[u8], likely: &[u8]) -> Run
+fn run(streams: Streams, aliases: &[u8], likely: &[u8]) -> Run
     ensures { let aliases = aliases.entry.now in let likely = likely.entry.now in
         Runs header (Lists aliases likely) (check to_maximise aliases likely []) result }
 {
     let o = output::print(
+        streams.stdout,
         output::begin(),
         b"line\tmember\tnumber\tplace\tidentifier\tmeaning\n",
     );
@@ -186,30 +194,35 @@ fn run(aliases: &[u8], likely: &[u8]) -> Run
     }
     let v = check_likely(aliases, likely);
     if let Verdict::Bad(number, place, table) = v {
-        let output = program_io::print_table(o, number, place, table);
-        say_tables(b"refused", number);
+        let output = program_io::print_table(streams.stdout, o, number, place, table);
+        say_tables(streams.stderr, b"refused", number);
         return Run {
             number,
             input: input::begin(),
             output,
         };
     }
-    answer(o, aliases, likely)
+    answer(streams, o, aliases, likely)
 }
 
-fn main() {
+fn main(rt: HostRuntime) -> ExitCode {
+    let streams = Streams {
+        stdin: rt.stdin(),
+        stdout: rt.stdout(),
+        stderr: rt.stderr(),
+    };
     let mut a = program_io::buffer();
     let mut l = program_io::buffer();
-    let x = load_table(b"refused", b"aliases.tsv", &mut a);
+    let x = load_table(&rt, streams.stderr, b"refused", "aliases.tsv", &mut a);
     if !x.read {
-        return finish(Status::Failed);
+        return finish(&rt, Status::Failed);
     }
-    let y = load_table(b"refused", b"likely.tsv", &mut l);
+    let y = load_table(&rt, streams.stderr, b"refused", "likely.tsv", &mut l);
     if !y.read {
-        return finish(Status::Failed);
+        return finish(&rt, Status::Failed);
     }
     let a_len = x.len;
     let l_len = y.len;
-    let r = run(&a[..a_len], &l[..l_len]);
-    finish(status_of(b"refused", r))
+    let r = run(streams, &a[..a_len], &l[..l_len]);
+    end(&rt, streams.stderr, b"refused", r)
 }

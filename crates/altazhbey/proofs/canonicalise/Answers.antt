@@ -4,8 +4,6 @@ use Rattle.standard.specs.Delivery.{Made, given}
 use Rattle.standard.specs.Make.{canonicalise_made}
 use Rattle.table.proofs.Hinting.{hinted-empty}
 use Rattle.operations.proofs.Delivers as delivers
-use borrow.Author.Rules.{rules}
-use native.Mathlib.Omega.{arith}
 use Rattle.altazhbey.proofs.canonicalise.Goals as goal
 
 pub returns-in-Bad : goal.returns-in-Bad

@@ -2,8 +2,6 @@
 use Rattle.standard.specs.Make.{list_made}
 use Rattle.operations.proofs.Delivers.{table-stands, table-good}
 use Rattle.operations.proofs.ChainChecked.{tested-chain, whole-answer}
-use borrow.Author.Rules.{rules}
-use native.Mathlib.Omega.{arith}
 use Rattle.altazhbey.proofs.chain.Goals as goal
 
 pub returns-in-Bad : goal.returns-in-Bad

@@ -3,8 +3,6 @@ use Rattle.standard.specs.Delivery.{given}
 use Rattle.standard.specs.Make.{after_check, check_made}
 use Rattle.operations.specs.Answer.{answer_of}
 use Rattle.operations.proofs.Delivers.{table-stands, table-good}
-use borrow.Author.Rules.{rules}
-use native.Mathlib.Omega.{arith}
 use Rattle.altazhbey.proofs.check.Goals as goal
 
 pub returns-in-Bad : goal.returns-in-Bad

@@ -2,8 +2,6 @@
 use mathlib.Core.Path.{ap, ◌∙◌}
 use Rattle.standard.specs.Delivery.{Made, given}
 use Rattle.operations.proofs.CompleteChecked.{whole-maximised}
-use borrow.Author.Rules.{rules}
-use native.Mathlib.Omega.{arith}
 use Rattle.altazhbey.proofs.maximise.Goals as goal
 
 pub returns : goal.returns

@@ -2,8 +2,6 @@
 use Rattle.operations.proofs.Delivers.{table-stands, table-good}
 use Rattle.operations.specs.Both.{whole_made}
 use Rattle.operations.proofs.CompleteChecked.{tested-both, whole-answer}
-use borrow.Author.Rules.{rules}
-use native.Mathlib.Omega.{arith}
 use Rattle.altazhbey.proofs.operation.Goals as goal
 
 pub returns-in-Bad : goal.returns-in-Bad

@@ -12,8 +12,7 @@ change-requires c =
 
 pub returns-then-has_key : goal.returns-then-has_key
 returns-then-has_key c =
-    let v = c.change in
-    (
+    let v = c.change in (
       record { keys = c.requires.1.keys; counts = (search rules) ∙ c.requires.1.counts },
       omega arith,
       λ u e m up few.
@@ -24,24 +23,22 @@ returns-then-has_key c =
     )
 
 pub returns-then-n-ge512 : goal.returns-then-n-ge512
-returns-then-n-ge512 c =
-    (
-      c.requires.1,
-      omega arith,
-      λ u e m up few.
-          usage-full u c.args.key.now c.args.keys.now c.args.counts.now c.args.n c.place_of-at.result c.has_key.result e (c.place_of-at.ensures.1 c.args.counts.now up) (c.has_key.ensures.0 c.args.counts.now)
-          c.if-has_key.false c.if-n-ge512.true,
-      λ k. (refl, refl),
-    )
+returns-then-n-ge512 c = (
+  c.requires.1,
+  omega arith,
+  λ u e m up few.
+      usage-full u c.args.key.now c.args.keys.now c.args.counts.now c.args.n c.place_of-at.result c.has_key.result e (c.place_of-at.ensures.1 c.args.counts.now up) (c.has_key.ensures.0 c.args.counts.now)
+      c.if-has_key.false c.if-n-ge512.true,
+  λ k. (refl, refl),
+)
 
 pub returns : goal.returns
-returns c =
-    (
-      c.insert.ensures.0,
-      omega arith,
-      λ u e m up few.
-          usage-more u c.args.key.now c.args.keys.now c.args.counts.now c.args.n c.place_of-at.result c.has_key.result e (c.place_of-at.ensures.1 c.args.counts.now up) (c.has_key.ensures.0 c.args.counts.now)
-          c.insert.new.keys c.insert.new.counts c.if-has_key.false
-          (c.insert.ensures.1 u e (c.mark_of-mark.ensures ∙ ap mark_of (sym m))),
-      λ k. absurd (omega (arith, k, c.if-n-ge512.false)),
-    )
+returns c = (
+  c.insert.ensures.0,
+  omega arith,
+  λ u e m up few.
+      usage-more u c.args.key.now c.args.keys.now c.args.counts.now c.args.n c.place_of-at.result c.has_key.result e (c.place_of-at.ensures.1 c.args.counts.now up) (c.has_key.ensures.0 c.args.counts.now)
+      c.insert.new.keys c.insert.new.counts c.if-has_key.false
+      (c.insert.ensures.1 u e (c.mark_of-mark.ensures ∙ ap mark_of (sym m))),
+  λ k. absurd (omega (arith, k, c.if-n-ge512.false)),
+)

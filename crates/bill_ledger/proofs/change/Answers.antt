@@ -4,7 +4,6 @@ use native.Mathlib.Omega.{arith}
 use lib.Bits.{bit_or}
 use lib.ListN.{get_or, length-set}
 use Rattle.bill_ledger.proofs.Changes.{changed}
-use borrow.Author.Rules.{rules}
 use Rattle.bill_ledger.proofs.change.Goals as goal
 
 pub bounds-counts-i-3 : goal.bounds-counts-i-3

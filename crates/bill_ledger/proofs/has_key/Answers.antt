@@ -9,7 +9,6 @@ use Rattle.standard.proofs.General.{clash}
 use Rattle.bill_ledger.specs.Places.{text_at}
 use Rattle.bill_ledger.proofs.Places.{key-part}
 use Rattle.bill_ledger.proofs.Changes.{hit-in, hit-out}
-use borrow.Author.Rules.{rules}
 use Rattle.bill_ledger.proofs.has_key.Goals as goal
 
 pub returns-then-n-at : goal.returns-then-n-at

@@ -3,7 +3,6 @@ use Prim.Native.Nat.{◌*◌}
 use native.Mathlib.Omega.{arith}
 use lib.ListN.{length-set}
 use Rattle.bill_ledger.proofs.Inserts.{counts-more}
-use borrow.Author.Rules.{rules}
 use Rattle.bill_ledger.proofs.insert_counts.Goals as goal
 
 pub bounds-counts-from-2 : goal.bounds-counts-from-2

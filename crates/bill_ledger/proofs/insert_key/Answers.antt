@@ -4,7 +4,6 @@ use native.Mathlib.Omega.{arith}
 use lib.ListN.{length, length-set}
 use Rattle.bill_ledger.specs.Places.{KeyMore}
 use Rattle.bill_ledger.proofs.Inserts.{key_more}
-use borrow.Author.Rules.{rules}
 use Rattle.bill_ledger.proofs.insert_key.Goals as goal
 use Rattle.bill_ledger.proofs.insert_key.Goals.{After-keys-2-1}
 
@@ -14,7 +13,7 @@ put-requires c =
     let a = c.args in
     omega (arith, v.ensures.size, length-set v.new.a (32 * a.at) (length a.key.now))
 
-key-there : (c : goal.After-keys-2-1)
+key-there : (c : After-keys-2-1)
     → KeyMore c.args.keys.now c.put.new.out c.args.n c.args.at c.args.key.now
 key-there c =
     let v = c.move_bytes in

@@ -5,7 +5,6 @@ use Rattle.byte_string.specs.declared.Order.{Order}
 use Rattle.byte_string.specs.Strings.{order_of}
 use Rattle.bill_ledger.specs.Places.{is_lt}
 use Rattle.bill_ledger.proofs.Moves.{below_key}
-use borrow.Author.Rules.{rules}
 use Rattle.bill_ledger.proofs.is_below.Goals as goal
 
 pub returns-in-Less : goal.returns-in-Less

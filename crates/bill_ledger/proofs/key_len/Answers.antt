@@ -2,7 +2,6 @@
 use mathlib.Core.Path.{sym, ◌∙◌}
 use native.Mathlib.Omega.{arith}
 use Rattle.bill_ledger.proofs.Moves.{short, long}
-use borrow.Author.Rules.{rules}
 use Rattle.bill_ledger.proofs.key_len.Goals as goal
 
 pub returns-then-b-le31 : goal.returns-then-b-le31

@@ -5,7 +5,6 @@ use native.Mathlib.Nat.{one-mul}
 use native.Mathlib.Omega.{arith}
 use lib.Pow.{shl_exact}
 use Rattle.bill_ledger.specs.Entries.{mark_of}
-use borrow.Author.Rules.{rules}
 use Rattle.bill_ledger.proofs.mark_of.Goals as goal
 
 pub returns : goal.returns

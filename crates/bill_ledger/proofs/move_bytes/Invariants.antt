@@ -1,9 +1,6 @@
 -- `bill_ledger::move_bytes` meets its contract. Assumes nothing.
 use Prim.Native.Nat.{◌≤◌}
-use native.Mathlib.Omega.{arith}
 use Rattle.bill_ledger.specs.Places.{Moving}
-use Rattle.bill_ledger.proofs.Moves.{moving-start, moving-more, moving-end}
-use borrow.Author.Rules.{rules}
 use Rattle.bill_ledger.proofs.move_bytes.Given as goal
 
 abbrev pub invariant-loop-j : goal.invariant-loop-j

@@ -1,9 +1,8 @@
 -- `bill_ledger::place_of` meets its contract. Assumes nothing.
 use mathlib.Core.Path.{sym, ◌∙◌}
-use Prim.Native.Nat.{◌-◌, ◌≤◌}
+use Prim.Native.Nat.{◌-◌}
 use native.Mathlib.Omega.{arith}
-use Rattle.bill_ledger.proofs.Moves.{Between, search-start, search-above, search-below, search-end}
-use borrow.Author.Rules.{rules}
+use Rattle.bill_ledger.proofs.Moves.{search-start, search-above, search-below, search-end}
 use Rattle.bill_ledger.proofs.place_of.Goals as goal
 
 pub loop-lo-init : goal.loop-lo-init

@@ -1,13 +1,10 @@
 -- `bill_lines::add` meets its contract. Assumes nothing.
 use mathlib.Core.Path.{refl}
-use borrow.Author.Tests.{not-true, not-false}
 use Rattle.operations.proofs.Delivers.{table-good}
 use Rattle.operations.proofs.CompleteChecked.{tested-both}
 use Rattle.table.proofs.Searches.{clash}
 use Rattle.table.specs.Lines.{lines}
 use Rattle.bill_lines.proofs.Helds.{held_stays, held_on, held-bad}
-use borrow.Author.Rules.{rules}
-use native.Mathlib.Omega.{arith}
 use Rattle.bill_lines.proofs.add.Goals as goal
 
 pub returns-then-not-is_usable : goal.returns-then-not-is_usable

@@ -1,8 +1,6 @@
 -- `bill_lines::add_hinted` meets its contract. Assumes nothing.
 use Rattle.table.specs.Lines.{lines}
 use Rattle.bill_lines.proofs.Helds.{held_on}
-use borrow.Author.Rules.{rules}
-use native.Mathlib.Omega.{arith}
 use Rattle.bill_lines.proofs.add_hinted.Goals as goal
 
 pub returns : goal.returns

@@ -3,7 +3,6 @@ use mathlib.Core.Path.{refl}
 use native.Mathlib.Omega.{arith}
 use borrow.Author.Tests.{le-leb, leb-true}
 use Rattle.table.proofs.Searches.{clash}
-use borrow.Author.Rules.{rules}
 use Rattle.bill_lines.proofs.is_usable.Goals as goal
 
 pub returns-then-c-ne0 : goal.returns-then-c-ne0
@@ -22,12 +21,11 @@ pub returns-then-c-gt1000000 : goal.returns-then-c-gt1000000
 returns-then-c-gt1000000 c = (λ e. absurd (clash e refl), λ u. absurd (omega (arith, c.if-c-gt1000000.true, u.bounded.lines)))
 
 pub returns : goal.returns
-returns c =
-    (
-      λ e. record {
-        number = c.if-c-ne0.false;
-        bounded = record { keys = c.if-c-gt512.false; lines = c.if-c-gt1000000.false; refused = leb-true _ _ e };
-        sized = record { keys = c.if-keys-ne16384.false; counts = c.if-counts-ne1024.false };
-      },
-      λ u. le-leb _ _ u.bounded.refused,
-    )
+returns c = (
+  λ e. record {
+    number = c.if-c-ne0.false;
+    bounded = record { keys = c.if-c-gt512.false; lines = c.if-c-gt1000000.false; refused = leb-true _ _ e };
+    sized = record { keys = c.if-keys-ne16384.false; counts = c.if-counts-ne1024.false };
+  },
+  λ u. le-leb _ _ u.bounded.refused,
+)

@@ -1,8 +1,6 @@
 -- `bill_lines::judged` meets its contract. Assumes nothing.
 use mathlib.Core.Path.{sym, ap, ◌∙◌}
 use Rattle.bill_lines.specs.Held.{judged_by}
-use borrow.Author.Rules.{rules}
-use native.Mathlib.Omega.{arith}
 use Rattle.bill_lines.proofs.judged.Goals as goal
 
 pub returns-in-Good : goal.returns-in-Good

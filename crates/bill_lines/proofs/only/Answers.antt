@@ -1,8 +1,6 @@
 -- `bill_lines::only` meets its contract. Assumes nothing.
 use mathlib.Core.Path.{refl}
 use Rattle.bill_lines.specs.State.{only}
-use borrow.Author.Rules.{rules}
-use native.Mathlib.Omega.{arith}
 use Rattle.bill_lines.proofs.only.Goals as goal
 
 pub returns : goal.returns

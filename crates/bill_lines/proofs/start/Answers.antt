@@ -1,7 +1,5 @@
 -- `bill_lines::start` meets its contract. Assumes nothing.
 use Rattle.bill_lines.proofs.Helds.{held_start}
-use borrow.Author.Rules.{rules}
-use native.Mathlib.Omega.{arith}
 use Rattle.bill_lines.proofs.start.Goals as goal
 
 pub returns : goal.returns

@@ -1,8 +1,6 @@
 -- `c_api::altazhbey_maximise` meets its contract. Assumes nothing.
 use Rattle.c_api.proofs.Sizes.{maximise-small}
 use Rattle.c_api.proofs.Packs.{unpacks}
-use borrow.Author.Rules.{rules}
-use native.Mathlib.Omega.{arith}
 use Rattle.c_api.proofs.altazhbey_maximise.Goals as goal
 
 pub returns : goal.returns

@@ -1,7 +1,6 @@
 -- `c_api::pack` meets its contract. Assumes nothing.
 use Rattle.c_api.specs.Packed.{packed}
 use borrow.Author.Rules.{rules}
-use native.Mathlib.Omega.{arith}
 use Rattle.c_api.proofs.pack.Goals as goal
 
 pub returns : goal.returns

@@ -1,8 +1,6 @@
 -- `encoding::ending_of` meets its contract. Assumes nothing.
 use mathlib.Core.Path.{sym, ◌∙◌}
 use Rattle.encoding.proofs.Laws as laws
-use borrow.Author.Rules.{rules}
-use native.Mathlib.Omega.{arith}
 use Rattle.encoding.proofs.ending_of.Goals as goal
 
 pub returns-then-ends_in_return : goal.returns-then-ends_in_return

@@ -1,8 +1,6 @@
 -- `encoding::ends_in_return` meets its contract. Assumes nothing.
 use mathlib.Core.Path.{sym}
 use Rattle.encoding.proofs.Laws as laws
-use borrow.Author.Rules.{rules}
-use native.Mathlib.Omega.{arith}
 use Rattle.encoding.proofs.ends_in_return.Goals as goal
 
 pub returns-then-lines-end : goal.returns-then-lines-end

@@ -1,8 +1,6 @@
 -- `encoding::front_of` meets its contract. Assumes nothing.
 use mathlib.Core.Path.{sym, ◌∙◌}
 use Rattle.encoding.proofs.Laws as laws
-use borrow.Author.Rules.{rules}
-use native.Mathlib.Omega.{arith}
 use Rattle.encoding.proofs.front_of.Goals as goal
 
 pub returns-then-is_marked : goal.returns-then-is_marked

@@ -1,7 +1,5 @@
 -- `encoding::has_return` meets its contract. Assumes nothing.
 use Rattle.encoding.proofs.Laws as laws
-use borrow.Author.Rules.{rules}
-use native.Mathlib.Omega.{arith}
 use Rattle.encoding.proofs.has_return.Goals as goal
 
 pub returns : goal.returns

@@ -1,8 +1,6 @@
 -- `encoding::is_wide` meets its contract. Assumes nothing.
 use mathlib.Core.Path.{sym, ◌∙◌}
 use Rattle.encoding.proofs.Laws as laws
-use borrow.Author.Rules.{rules}
-use native.Mathlib.Omega.{arith}
 use Rattle.encoding.proofs.is_wide.Goals as goal
 
 pub returns-then-lines-eq0 : goal.returns-then-lines-eq0

@@ -1,8 +1,6 @@
 -- `encoding::is_wide_pair` meets its contract. Assumes nothing.
 use mathlib.Core.Path.{sym}
 use Rattle.encoding.proofs.Laws as laws
-use borrow.Author.Rules.{rules}
-use native.Mathlib.Omega.{arith}
 use Rattle.encoding.proofs.is_wide_pair.Goals as goal
 
 pub returns-then-a-eq0 : goal.returns-then-a-eq0

@@ -1,11 +1,8 @@
 -- `inspect_rows::key_number` meets its contract. Assumes nothing.
 use mathlib.Core.Path.{◌≡◌, refl}
 use mathlib.Core.Bool.{true, false}
-use borrow.Author.Tests.{not-true, not-false}
 use Rattle.key_rows.proofs.Laws as laws
 use Rattle.inspect_rows.specs.Rows.{key_number}
-use borrow.Author.Rules.{rules}
-use native.Mathlib.Omega.{arith}
 use Rattle.inspect_rows.proofs.key_number.Goals as goal
 
 pub returns-then-not-keyed : goal.returns-then-not-keyed

@@ -1,7 +1,5 @@
 -- `inspect_rows::put_keyed` meets its contract. Assumes nothing.
 use Rattle.inspect_rows.specs.Rows.{line_row}
-use borrow.Author.Rules.{rules}
-use native.Mathlib.Omega.{arith}
 use Rattle.inspect_rows.proofs.put_keyed.Goals as goal
 
 pub returns : goal.returns

@@ -4,7 +4,6 @@ use mathlib.Core.List.{[]}
 use Rattle.standard.specs.Tag.{text}
 use Rattle.tsv.proofs.Laws.{field-length}
 use Rattle.inspect_rows.proofs.Rows as rows
-use borrow.Author.Rules.{rules}
 use Rattle.inspect_rows.proofs.put_no_key.Goals as goal
 
 pub put_number-q-requires : goal.put_number-q-requires

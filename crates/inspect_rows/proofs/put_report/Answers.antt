@@ -4,7 +4,6 @@ use mathlib.Core.Path.{refl}
 use Rattle.byte_string.proofs.Stores.{wrote-two}
 use Rattle.reader.specs.Words.{word_is, report_is}
 use Rattle.inspect_rows.specs.Rows.{where_text, three_text, counts_text, fields_text}
-use borrow.Author.Rules.{rules}
 use Rattle.inspect_rows.proofs.put_report.Goals as goal
 
 pub returns : goal.returns

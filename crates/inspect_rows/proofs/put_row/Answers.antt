@@ -8,7 +8,6 @@ use Rattle.tsv.proofs.Laws.{field-length}
 use Rattle.tsv.specs.Fields.{field, asked_of}
 use Rattle.inspect_rows.specs.Rows.{fields_text, meant_text, row_of}
 use Rattle.inspect_rows.proofs.Bounds as bounds
-use borrow.Author.Rules.{rules}
 use Rattle.inspect_rows.proofs.put_row.Goals as goal
 
 pub put_asked-asked-requires : goal.put_asked-asked-requires

@@ -1,6 +1,4 @@
 -- `inspect_rows::put_subtag` meets its contract. Assumes nothing.
-use borrow.Author.Rules.{rules}
-use native.Mathlib.Omega.{arith}
 use Rattle.inspect_rows.proofs.put_subtag.Goals as goal
 
 pub returns : goal.returns

@@ -5,7 +5,6 @@ use Rattle.byte_string.proofs.Stores.{wrote-two}
 use Rattle.reader.specs.Words.{word_is}
 use Rattle.tsv.specs.Fields.{field}
 use Rattle.inspect_rows.specs.Rows.{dashed, three_text}
-use borrow.Author.Rules.{rules}
 use Rattle.inspect_rows.proofs.put_three.Goals as goal
 
 pub returns : goal.returns

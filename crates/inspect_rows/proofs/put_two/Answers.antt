@@ -3,7 +3,6 @@ use native.Mathlib.Omega.{arith}
 use mathlib.Core.Path.{refl}
 use Rattle.byte_string.proofs.Stores.{wrote-two}
 use Rattle.tsv.specs.Fields.{decimal, field}
-use borrow.Author.Rules.{rules}
 use Rattle.inspect_rows.proofs.put_two.Goals as goal
 
 pub returns : goal.returns

@@ -1,9 +1,7 @@
 -- `inspect_rows::rows_hinted` meets its contract. Assumes nothing.
-use native.Mathlib.Omega.{arith}
 use mathlib.Core.Path.{◌≡◌}
 use Prim.Native.Nat.{◌-◌}
 use lib.ListN.{length}
-use borrow.Author.Rules.{rules}
 use Rattle.lines.proofs.Pieces as pieces
 use Rattle.inspect_rows.specs.Rows.{line_row}
 use Rattle.inspect_rows.proofs.rows_hinted.Given as goal

@@ -1,8 +1,6 @@
 -- `inspect_rows::rows_of` meets its contract. Assumes nothing.
 use native.Mathlib.Omega.{arith}
 use Prim.Native.Nat.{◌-◌}
-use lib.ListN.{length}
-use borrow.Author.Rules.{rules}
 use Rattle.lines.proofs.Pieces as pieces
 use Rattle.inspect_rows.specs.Rows.{row_of}
 use Rattle.inspect_rows.proofs.rows_of.Goals as goal
@@ -18,7 +16,7 @@ returns-then-out-len-lt512 c =
     (d.0, d.1, d.2, l.invariant.within, l.invariant.room)
 
 -- the line that starts at `at`
-line : (c : goal.After-end_of-e) → pieces.Line c.args.piece.now c.loop-at.at c.end_of-e.result
+line : (c : After-end_of-e) → pieces.Line c.args.piece.now c.loop-at.at c.end_of-e.result
 line c = pieces.line _ _ _ c.loop-at-test.true c.end_of-e.ensures
 
 pub slice_bounds-put_row-count : goal.slice_bounds-put_row-count

@@ -1,8 +1,6 @@
 -- `inspect_rows::rows_of` meets its contract. Assumes nothing.
-use native.Mathlib.Omega.{arith}
 use Prim.Native.Nat.{◌-◌}
 use lib.ListN.{length}
-use borrow.Author.Rules.{rules}
 use Rattle.lines.proofs.Pieces as pieces
 use Rattle.inspect_rows.specs.Rows.{row_of}
 use Rattle.inspect_rows.proofs.rows_of.Given as goal

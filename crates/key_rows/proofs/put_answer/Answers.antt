@@ -7,7 +7,6 @@ use Rattle.byte_string.proofs.Stores.{wrote-two}
 use Rattle.tsv.specs.Fields.{decimal, field, asked_of}
 use Rattle.tsv.proofs.Laws.{field-length}
 use Rattle.key_rows.specs.Keys.{answer_text, kept_text}
-use borrow.Author.Rules.{rules}
 use Rattle.key_rows.proofs.put_answer.Goals as goal
 
 pub put_number-q-requires : goal.put_number-q-requires

@@ -6,7 +6,6 @@ use mathlib.Core.List.{[], ◌∷◌}
 use lib.ListN.{take}
 use lib.Seq.{length-take-le}
 use Rattle.tsv.proofs.Laws.{field-length}
-use borrow.Author.Rules.{rules}
 use Rattle.key_rows.proofs.put_kept.Goals as goal
 
 pub slice_bounds-put-end : goal.slice_bounds-put-end

@@ -7,7 +7,7 @@ use borrow.Author.Rules.{rules}
 use Rattle.key_rows.proofs.put_row.Goals as goal
 use Rattle.key_rows.proofs.put_row.Goals.{After-answer-a}
 
-row : (c : goal.After-answer-a) → laws.Told c.args.aliases.now c.args.likely.now c.args.line.now c.requires.0.passes c.answer-a.result c.form_hinted.new.out
+row : (c : After-answer-a) → laws.Told c.args.aliases.now c.args.likely.now c.args.line.now c.requires.0.passes c.answer-a.result c.form_hinted.new.out
 row c =
     laws.told-row c.args.aliases.now c.args.likely.now c.args.line.now c.requires.0 c.form_hinted.result c.answer-a.result _ c.args.form.now c.requires.3 c.answer-a.ensures c.form_hinted.ensures
 

@@ -1,8 +1,7 @@
 -- `key_rows::rows_hinted` meets its contract. Assumes nothing.
 use native.Mathlib.Omega.{arith}
-use mathlib.Core.Path.{◌≡◌, refl}
+use mathlib.Core.Path.{refl}
 use Prim.Native.Nat.{◌-◌}
-use lib.ListN.{length}
 use borrow.Author.Rules.{rules}
 use Rattle.lines.proofs.Pieces as pieces
 use Rattle.key_rows.specs.Keys.{key_row}
@@ -24,7 +23,7 @@ returns-then-out-len-lt540 c =
     (laws.rows-given c.args.aliases.now c.args.likely.now c.args.piece.now c.requires.0.passes c.args.out.now l.out _ refl refl refl d.0 d.1 d.2 g.room, g.within, g.room)
 
 -- the line that starts at `at`
-line : (c : goal.After-end_of-e) → pieces.Line c.args.piece.now c.loop-at.at c.end_of-e.result
+line : (c : After-end_of-e) → pieces.Line c.args.piece.now c.loop-at.at c.end_of-e.result
 line c = pieces.line _ _ _ c.loop-at-test.true c.end_of-e.ensures
 
 pub slice_bounds-put_row-count : goal.slice_bounds-put_row-count

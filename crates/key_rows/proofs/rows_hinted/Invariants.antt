@@ -1,12 +1,9 @@
 -- `key_rows::rows_hinted` meets its contract. Assumes nothing.
-use native.Mathlib.Omega.{arith}
-use mathlib.Core.Path.{◌≡◌, refl}
+use mathlib.Core.Path.{◌≡◌}
 use Prim.Native.Nat.{◌-◌}
 use lib.ListN.{length}
-use borrow.Author.Rules.{rules}
 use Rattle.lines.proofs.Pieces as pieces
 use Rattle.key_rows.specs.Keys.{key_row}
-use Rattle.key_rows.proofs.Laws as laws
 use Rattle.key_rows.proofs.rows_hinted.Given as goal
 
 abbrev pub invariant-loop-at : goal.invariant-loop-at

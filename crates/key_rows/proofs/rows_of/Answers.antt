@@ -3,7 +3,6 @@ use native.Mathlib.Omega.{arith}
 use Rattle.operations.proofs.Delivers.{table-good}
 use Rattle.operations.proofs.CompleteChecked.{tested-both}
 use Rattle.key_rows.proofs.Laws as laws
-use borrow.Author.Rules.{rules}
 use Rattle.key_rows.proofs.rows_of.Goals as goal
 
 pub returns-in-Bad : goal.returns-in-Bad

@@ -1,11 +1,10 @@
 -- `lines::keep_rest` meets its contract. Assumes nothing.
 use native.Mathlib.Omega.{arith}
 use mathlib.Core.Path.{◌≡◌, refl, ap, ◌∙◌}
-use Prim.Native.Nat.{ℕ, ◌-◌, ◌≤◌}
-use lib.ListN.{length, take, drop, length-set}
+use Prim.Native.Nat.{ℕ, ◌-◌}
+use lib.ListN.{take, drop, length-set}
 use lib.Seq.{sets}
 use Rattle.lines.proofs.Laws as laws
-use borrow.Author.Rules.{rules}
 use Rattle.lines.proofs.keep_rest.Goals as goal
 
 pub loop-i-init : goal.loop-i-init

@@ -1,7 +1,6 @@
 -- `lines::put_kept` meets its contract. Assumes nothing.
 use native.Mathlib.Omega.{arith}
 use mathlib.Core.Path.{refl}
-use borrow.Author.Rules.{rules}
 use Rattle.lines.proofs.Laws as laws
 use Rattle.lines.proofs.put_kept.Goals as goal
 

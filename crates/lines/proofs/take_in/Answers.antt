@@ -1,9 +1,5 @@
 -- `lines::take_in` meets its contract. Assumes nothing.
-use native.Mathlib.Omega.{arith}
-use Prim.Native.Nat.{◌-◌}
-use lib.ListN.{length}
 use Rattle.lines.proofs.Laws as laws
-use borrow.Author.Rules.{rules}
 use Rattle.lines.proofs.take_in.Goals as goal
 
 pub loop-i-init : goal.loop-i-init

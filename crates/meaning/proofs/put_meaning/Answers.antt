@@ -2,7 +2,6 @@
 use native.Mathlib.Omega.{arith}
 use Rattle.meaning.specs.Meaning.{meaning_of}
 use Rattle.meaning.proofs.Laws as laws
-use borrow.Author.Rules.{rules}
 use Rattle.meaning.proofs.put_meaning.Goals as goal
 
 pub returns-in-0 : goal.returns-in-0

@@ -3,7 +3,6 @@ use native.Mathlib.Omega.{arith}
 use Rattle.standard.specs.Tag.{text}
 use Rattle.meaning.specs.Meaning.{refusal_of}
 use Rattle.meaning.proofs.Laws as laws
-use borrow.Author.Rules.{rules}
 use Rattle.meaning.proofs.put_refusal.Goals as goal
 
 pub returns-in-1 : goal.returns-in-1

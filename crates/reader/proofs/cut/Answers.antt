@@ -2,8 +2,6 @@
 use mathlib.Core.Path.{refl}
 use Rattle.reader.specs.Walk.{cut}
 use Rattle.reader.proofs.Cutting as cutting
-use borrow.Author.Rules.{rules}
-use native.Mathlib.Omega.{arith}
 use Rattle.reader.proofs.cut.Goals as goal
 
 pub returns-in-First : goal.returns-in-First

@@ -1,8 +1,6 @@
 -- `reader::extended` meets its contract. Assumes nothing.
 use mathlib.Core.Path.{refl}
 use Rattle.reader.specs.Walk.{extended}
-use borrow.Author.Rules.{rules}
-use native.Mathlib.Omega.{arith}
 use Rattle.reader.proofs.extended.Goals as goal
 
 pub returns : goal.returns

@@ -1,8 +1,6 @@
 -- `reader::foreign` meets its contract. Assumes nothing.
 use Rattle.subtag.specs.Bytes.{is_other}
 use Rattle.subtag.proofs.Bytes.{by-class, foreign-as}
-use borrow.Author.Rules.{rules}
-use native.Mathlib.Omega.{arith}
 use Rattle.reader.proofs.foreign.Goals as goal
 
 pub returns : goal.returns

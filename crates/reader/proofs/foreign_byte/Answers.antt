@@ -1,10 +1,7 @@
 -- `reader::foreign_byte` meets its contract. Assumes nothing.
-use borrow.Author.Rules.{rules}
 use native.Mathlib.Omega.{arith}
-use mathlib.Core.Path.{◌≡◌, refl, sym, ◌∙◌}
-use Prim.Native.Nat.{◌-◌, ◌≤◌}
-use lib.ListN.{length, drop}
-use Rattle.standard.specs.Reading.{unclean}
+use mathlib.Core.Path.{refl, sym, ◌∙◌}
+use Prim.Native.Nat.{◌-◌}
 use Rattle.reader.specs.Parts.{found_as}
 use Rattle.reader.proofs.Outcomes as outcomes
 use Rattle.reader.proofs.foreign_byte.Goals as goal

@@ -1,8 +1,6 @@
 -- `reader::misplaced` meets its contract. Assumes nothing.
 use mathlib.Core.Path.{refl}
 use Rattle.reader.proofs.Choices as choices
-use borrow.Author.Rules.{rules}
-use native.Mathlib.Omega.{arith}
 use Rattle.reader.proofs.misplaced.Goals as goal
 
 pub returns-then-at-eq0 : goal.returns-then-at-eq0

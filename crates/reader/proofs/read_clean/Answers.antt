@@ -2,8 +2,6 @@
 use mathlib.Core.Path.{◌∙◌}
 use Rattle.reader.specs.Parts.{outcome_of}
 use Rattle.reader.proofs.Outcomes as outcomes
-use borrow.Author.Rules.{rules}
-use native.Mathlib.Omega.{arith}
 use Rattle.reader.proofs.read_clean.Goals as goal
 
 pub returns-in-At : goal.returns-in-At

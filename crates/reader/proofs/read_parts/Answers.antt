@@ -3,7 +3,6 @@ use native.Mathlib.Omega.{arith}
 use mathlib.Core.Path.{sym, ap, ◌∙◌}
 use Rattle.reader.specs.Parts.{outcome_of, found_as}
 use Rattle.reader.proofs.Outcomes as outcomes
-use borrow.Author.Rules.{rules}
 use Rattle.reader.proofs.read_parts.Goals as goal
 
 pub returns-then-id-eq0 : goal.returns-then-id-eq0

@@ -1,8 +1,6 @@
 -- `reader::unread` meets its contract. Assumes nothing.
 use mathlib.Core.Path.{refl}
 use Rattle.reader.specs.Walk.{unread}
-use borrow.Author.Rules.{rules}
-use native.Mathlib.Omega.{arith}
 use Rattle.reader.proofs.unread.Goals as goal
 
 pub returns : goal.returns

@@ -1,22 +1,19 @@
 -- `reader::walk` meets its contract: each turn of the loop is one step of the definition. Assumes nothing.
-use borrow.Author.Rules.{rules}
 use native.Mathlib.Omega.{arith}
 use mathlib.Core.Path.{refl, sym, ◌∙◌}
-use mathlib.Core.Logic.{⊎_elim}
-use Prim.Native.Nat.{suc, ◌-◌}
-use lib.ListN.{length}
+use Prim.Native.Nat.{◌-◌}
 use Rattle.reader.specs.Parts.{outcome_of}
 use Rattle.reader.proofs.Loop as loop
 use Rattle.reader.proofs.walk.Goals as goal
-use Rattle.reader.proofs.walk.Goals.{After-verdict_of-verdict, Joined-verdict, in-Singleton+in-New, in-Listed+else-loop-i-test, in-Plain}
+use Rattle.reader.proofs.walk.Goals.{After-verdict_of-verdict, Joined-verdict, in-Listed+else-loop-i-test, in-Plain, in-Singleton+in-New}
 
 -- what the scan, the transition and the verdict say of the subtag at hand
-told_at : (c : goal.After-verdict_of-verdict)
+told_at : (c : After-verdict_of-verdict)
     → loop.Told c.args.id.now c.walk.at c.scan-t.result c.walk.st c.step-next.result c.verdict_of-verdict.result
 told_at c = loop.told _ _ _ _ _ _ c.scan-t.ensures c.step-next.ensures c.verdict_of-verdict.ensures
 
 -- where the arms meet
-joined : (c : goal.Joined-verdict)
+joined : (c : Joined-verdict)
     → loop.Behind c.args.id.now c.match-verdict.listed c.match-verdict.count c.match-verdict.set c.walk.parts
     c.walk.at c.scan-t.result c.step-next.result
 joined c =

@@ -1,11 +1,6 @@
 -- `reader::walk` meets its contract: each turn of the loop is one step of the definition. Assumes nothing.
-use borrow.Author.Rules.{rules}
-use native.Mathlib.Omega.{arith}
-use mathlib.Core.Path.{refl, sym, ◌∙◌}
-use mathlib.Core.Logic.{⊎_elim}
 use Prim.Native.Nat.{suc, ◌-◌}
 use lib.ListN.{length}
-use Rattle.reader.specs.Parts.{outcome_of}
 use Rattle.reader.proofs.Loop as loop
 use Rattle.reader.proofs.walk.Given as goal
 

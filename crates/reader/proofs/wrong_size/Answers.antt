@@ -1,11 +1,10 @@
 -- `reader::wrong_size` meets its contract. Assumes nothing.
-use borrow.Author.Rules.{rules}
 use native.Mathlib.Omega.{arith}
 use mathlib.Core.Path.{◌≡◌, refl, sym, ◌∙◌}
-use Prim.Native.Nat.{suc, ◌-◌, ◌≤◌}
+use Prim.Native.Nat.{◌-◌}
 use lib.ListN.{length, drop}
 use Rattle.standard.specs.Tag.{head_tag}
-use Rattle.standard.specs.Reading.{bad_tag, wrong_size, split}
+use Rattle.standard.specs.Reading.{split}
 use Rattle.subtag.proofs.Walk.{judged, scanned-len}
 use Rattle.reader.specs.Parts.{found_as}
 use Rattle.reader.proofs.Outcomes as outcomes
@@ -13,7 +12,7 @@ use Rattle.reader.proofs.wrong_size.Goals as goal
 use Rattle.reader.proofs.wrong_size.Goals.{After-scan-t}
 
 -- the length of the subtag at hand
-length_at : (c : goal.After-scan-t) → c.scan-t.result.len ≡ length (head_tag (split (drop c.loop-at.at c.args.id.now)))
+length_at : (c : After-scan-t) → c.scan-t.result.len ≡ length (head_tag (split (drop c.loop-at.at c.args.id.now)))
 length_at c =
     let s = c.args.id.now in
     let at = c.loop-at.at in

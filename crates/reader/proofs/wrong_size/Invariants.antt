@@ -1,14 +1,8 @@
 -- `reader::wrong_size` meets its contract. Assumes nothing.
-use borrow.Author.Rules.{rules}
-use native.Mathlib.Omega.{arith}
-use mathlib.Core.Path.{◌≡◌, refl, sym, ◌∙◌}
+use mathlib.Core.Path.{◌≡◌}
 use Prim.Native.Nat.{suc, ◌-◌, ◌≤◌}
 use lib.ListN.{length, drop}
-use Rattle.standard.specs.Tag.{head_tag}
 use Rattle.standard.specs.Reading.{bad_tag, wrong_size, split}
-use Rattle.subtag.proofs.Walk.{judged, scanned-len}
-use Rattle.reader.specs.Parts.{found_as}
-use Rattle.reader.proofs.Outcomes as outcomes
 use Rattle.reader.proofs.wrong_size.Given as goal
 
 abbrev pub invariant-loop-at : goal.invariant-loop-at

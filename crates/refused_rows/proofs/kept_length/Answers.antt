@@ -1,6 +1,5 @@
 -- `refused_rows::kept_length` meets its contract. Assumes nothing.
 use Rattle.std.proofs.Common.{refl, inl, inr, arith}
-use borrow.Author.Rules.{rules}
 use native.Mathlib.Omega.{arith}
 use Rattle.refused_rows.proofs.kept_length.Goals as goal
 

@@ -1,8 +1,5 @@
 -- `refused_rows::put_kept` meets its contract. Assumes nothing.
 use Rattle.refused_rows.specs.Rows.{kept_row}
-use Rattle.std.proofs.Common.{rules}
-use borrow.Author.Rules.{rules}
-use native.Mathlib.Omega.{arith}
 use Rattle.refused_rows.proofs.put_kept.Goals as goal
 
 pub returns : goal.returns

@@ -1,8 +1,7 @@
 -- `refused_rows::put_row` meets its contract. Assumes nothing.
-use Rattle.std.proofs.Common.{sym, arith, length-take-le, rules}
+use Rattle.std.proofs.Common.{sym, arith, length-take-le}
 use Rattle.refused_rows.specs.Rows.{line_row}
 use Rattle.refused_rows.proofs.Rows as laws
-use borrow.Author.Rules.{rules}
 use native.Mathlib.Omega.{arith}
 use Rattle.refused_rows.proofs.put_row.Goals as goal
 

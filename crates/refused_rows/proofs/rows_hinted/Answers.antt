@@ -1,5 +1,5 @@
 -- `refused_rows::rows_hinted` meets its contract. Assumes nothing.
-use Rattle.std.proofs.Common.{◌≡◌, ◌-◌, length, refl, arith, rules}
+use Rattle.std.proofs.Common.{◌-◌, refl, arith, rules}
 use Rattle.lines.proofs.Pieces as pieces
 use Rattle.refused_rows.specs.Numbered.{next_number}
 use Rattle.refused_rows.specs.Rows.{line_row}
@@ -24,7 +24,7 @@ returns-then-out-len-lt2400 c =
     (laws.rows-given c.args.aliases.now c.args.likely.now c.args.first c.args.piece.now c.requires.0.passes c.args.out.now l.out _ refl refl refl d.used d.number d.size d.bytes g.room, g.within, g.room)
 
 -- the line that starts at `at`
-line : (c : goal.After-end_of-e) → pieces.Line c.args.piece.now c.loop-at.at c.end_of-e.result
+line : (c : After-end_of-e) → pieces.Line c.args.piece.now c.loop-at.at c.end_of-e.result
 line c = pieces.line _ _ _ c.loop-at-test.true c.end_of-e.ensures
 
 pub slice_bounds-put_row-count : goal.slice_bounds-put_row-count

@@ -1,12 +1,7 @@
 -- `refused_rows::rows_hinted` meets its contract. Assumes nothing.
-use Rattle.std.proofs.Common.{◌≡◌, ◌-◌, length, refl, arith, rules}
-use Rattle.lines.proofs.Pieces as pieces
-use Rattle.refused_rows.specs.Numbered.{next_number}
+use Rattle.std.proofs.Common.{◌≡◌, ◌-◌, length}
 use Rattle.refused_rows.specs.Rows.{line_row}
 use Rattle.refused_rows.proofs.Numbered as numbered
-use Rattle.refused_rows.proofs.Laws as laws
-use borrow.Author.Rules.{rules}
-use native.Mathlib.Omega.{arith}
 use Rattle.refused_rows.proofs.rows_hinted.Given as goal
 
 abbrev pub invariant-loop-at : goal.invariant-loop-at

@@ -1,9 +1,8 @@
 -- `refused_rows::rows_of` meets its contract. Assumes nothing.
-use Rattle.std.proofs.Common.{arith, rules}
+use Rattle.std.proofs.Common.{arith}
 use Rattle.operations.proofs.Delivers.{table-good}
 use Rattle.operations.proofs.CompleteChecked.{tested-both}
 use Rattle.refused_rows.proofs.Laws as laws
-use borrow.Author.Rules.{rules}
 use native.Mathlib.Omega.{arith}
 use Rattle.refused_rows.proofs.rows_of.Goals as goal
 

@@ -10,10 +10,10 @@ use Rattle.row_shapes.proofs.check_rows.Goals as goal
 use Rattle.row_shapes.proofs.check_rows.Goals.{Else-not-r}
 
 -- the row, and its key within it
-here : (c : goal.Else-not-r) → RowIn c.args.table c.args.t.now c.loop-i.i c.row-r.result
+here : (c : Else-not-r) → RowIn c.args.table c.args.t.now c.loop-i.i c.row-r.result
 here c = row_in _ _ _ c.loop-i-test.true _ c.row-r.ensures (not-false _ c.if-not-r.false)
 
-key : (c : goal.Else-not-r) → (0 < c.row-r.result.key) × (c.loop-i.i + c.row-r.result.key < c.loop-i.i + c.row-r.result.end)
+key : (c : Else-not-r) → (0 < c.row-r.result.key) × (c.loop-i.i + c.row-r.result.key < c.loop-i.i + c.row-r.result.end)
 key c = let h = here c in passes.key-bounds _ _ [] _ _ h.end c.loop-i-test.true h.high _ h.key h.shape
 
 pub loop-i-init : goal.loop-i-init

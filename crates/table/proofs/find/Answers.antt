@@ -7,17 +7,17 @@ use lib.ListN.{length}
 use Rattle.byte_string.proofs.Ends.{Ends, ends}
 use Rattle.table.proofs.Lines.{row-start, row-past, row-miss, row-hit, row_room}
 use Rattle.table.proofs.find.Goals as goal
-use Rattle.table.proofs.find.Goals.{After-end_of-e, Then-starts_row, Then-starts_row}
+use Rattle.table.proofs.find.Goals.{After-end_of-e, Then-starts_row}
 
 pub loop-i-init : goal.loop-i-init
 loop-i-init c = row-start _ _
 
 -- the line's end lies at or after its start, and within the table
-bounds : (c : goal.After-end_of-e) → Ends 10 c.args.t.now c.loop-i.i c.end_of-e.result
+bounds : (c : After-end_of-e) → Ends 10 c.args.t.now c.loop-i.i c.end_of-e.result
 bounds c = ends _ _ _ _ c.end_of-e.ensures (omega arith)
 
 -- the row has room for the key and the tab
-room : (c : goal.Then-starts_row)
+room : (c : Then-starts_row)
     → c.loop-i.i + length c.args.key.now + 1 ≤ c.end_of-e.result
 room c =
     let a = c.args in

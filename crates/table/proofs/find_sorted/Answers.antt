@@ -8,13 +8,13 @@ use Rattle.byte_string.proofs.Ends.{Ends, ends}
 use Rattle.table.proofs.Lines.{row-past, row-hit, row_room}
 use Rattle.table.proofs.Searches.{landed-miss}
 use Rattle.table.proofs.find_sorted.Goals as goal
-use Rattle.table.proofs.find_sorted.Goals.{After-end_of-e, Then-starts_row, Then-starts_row}
+use Rattle.table.proofs.find_sorted.Goals.{After-end_of-e, Then-starts_row}
 
-bounds : (c : goal.After-end_of-e) → Ends 10 c.args.t.now c.locate-i.result c.end_of-e.result
+bounds : (c : After-end_of-e) → Ends 10 c.args.t.now c.locate-i.result c.end_of-e.result
 bounds c = ends _ _ _ _ c.end_of-e.ensures (omega arith)
 
 -- the row has room for the key and the tab
-room : (c : goal.Then-starts_row)
+room : (c : Then-starts_row)
     → c.locate-i.result + length c.args.key.now + 1 ≤ c.end_of-e.result
 room c =
     let a = c.args in

@@ -13,7 +13,7 @@ pub loop-lo-init : goal.loop-lo-init
 loop-lo-init c = (search rules, λ s. span-all _ _ s)
 
 -- the probed line: it starts within the span, and ends at or after its start, within the table
-ends : (c : goal.After-end_of-e)
+ends : (c : After-end_of-e)
     → (c.loop-lo.lo ≤ c.line_start-m.result)
     × (c.line_start-m.result < c.loop-lo.hi)
     × (c.line_start-m.result ≤ c.end_of-e.result)

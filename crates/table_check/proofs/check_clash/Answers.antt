@@ -1,14 +1,9 @@
 -- `table_check::check_clash` meets its contract. The invariant: the rows from i on have their shape, and decide. Assumes nothing.
-use borrow.Author.Rules.{rules}
 use native.Mathlib.Omega.{arith}
-use borrow.Author.Tests.{not-true, not-false}
-use mathlib.Core.Path.{◌≡◌, refl, sym, ◌∙◌}
+use mathlib.Core.Path.{refl, sym, ◌∙◌}
 use Prim.Native.Nat.{◌-◌}
-use lib.ListN.{length, drop}
-use Rattle.standard.specs.Table.{pieces, rows, clash_fault, shape_of, Pass}
+use Rattle.standard.specs.Table.{rows}
 use Rattle.byte_string.proofs.Ends.{Ends, ends}
-use Rattle.row_shapes.specs.Rows.{kind_is}
-use Rattle.table_check.specs.Free.{free_row}
 use Rattle.table_check.proofs.Clashes.{pass-row, clash-here, clash-next, clash-end}
 use Rattle.table_check.proofs.check_clash.Goals as goal
 use Rattle.table_check.proofs.check_clash.Goals.{After-end_of-e}
@@ -18,7 +13,7 @@ unfolding rows
 loop-i-init c = (c.requires.2, refl)
 
 -- the line's end lies at or after its start, and within the table
-bounds : (c : goal.After-end_of-e) → Ends 10 c.args.t.now c.loop-i.i c.end_of-e.result
+bounds : (c : After-end_of-e) → Ends 10 c.args.t.now c.loop-i.i c.end_of-e.result
 bounds c = ends _ _ _ _ c.end_of-e.ensures (omega arith)
 
 pub free-requires : goal.free-requires

@@ -1,15 +1,10 @@
 -- `table_check::check_clash` meets its contract. The invariant: the rows from i on have their shape, and decide. Assumes nothing.
-use borrow.Author.Rules.{rules}
-use native.Mathlib.Omega.{arith}
-use borrow.Author.Tests.{not-true, not-false}
-use mathlib.Core.Path.{◌≡◌, refl, sym, ◌∙◌}
+use mathlib.Core.Path.{◌≡◌}
 use Prim.Native.Nat.{◌-◌}
 use lib.ListN.{length, drop}
 use Rattle.standard.specs.Table.{pieces, rows, clash_fault, shape_of, Pass}
-use Rattle.byte_string.proofs.Ends.{Ends, ends}
 use Rattle.row_shapes.specs.Rows.{kind_is}
 use Rattle.table_check.specs.Free.{free_row}
-use Rattle.table_check.proofs.Clashes.{pass-row, clash-here, clash-next, clash-end}
 use Rattle.table_check.proofs.check_clash.Given as goal
 
 abbrev pub invariant-loop-i : goal.invariant-loop-i

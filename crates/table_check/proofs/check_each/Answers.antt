@@ -2,8 +2,6 @@
 use mathlib.Core.Path.{◌∙◌}
 use Rattle.table_check.proofs.Ordered.{first-bad, second-bad, third, each-table}
 use Rattle.row_shapes.specs.Rows.{kind_is}
-use borrow.Author.Rules.{rules}
-use native.Mathlib.Omega.{arith}
 use Rattle.table_check.proofs.check_each.Goals as goal
 
 pub returns-in_default : goal.returns-in_default

@@ -1,5 +1,4 @@
 -- `table_check::check_free` meets its contract. Assumes nothing.
-use borrow.Author.Tests.{not-true, not-false}
 use mathlib.Core.Path.{◌≡◌, sym, ap, ◌∙◌}
 use mathlib.Core.Bool.{true}
 use mathlib.Core.Option.{none}
@@ -8,8 +7,6 @@ use Rattle.row_shapes.specs.Rows.{kind_is}
 use Rattle.table_check.specs.Free.{clash_is}
 use Rattle.table_check.specs.Verdicts.{use_is, is_used, clash_by}
 use Rattle.table_check.proofs.Ordered.{unused, tested-one, clear-one, in-none, in_some, shape-rows, shape-sorted}
-use borrow.Author.Rules.{rules}
-use native.Mathlib.Omega.{arith}
 use Rattle.table_check.proofs.check_free.Goals as goal
 use Rattle.table_check.proofs.check_free.Goals.{Else-not-uses}
 
@@ -17,7 +14,7 @@ pub returns-then-not-uses : goal.returns-then-not-uses
 returns-then-not-uses c = unused _ _ _ _ (sym c.uses.ensures ∙ c.if-not-uses.true)
 
 -- the table is in use
-in_use_lem : (c : goal.Else-not-uses) → is_used (use_is c.args.purpose) (kind_is c.args.table) ≡ true
+in_use_lem : (c : Else-not-uses) → is_used (use_is c.args.purpose) (kind_is c.args.table) ≡ true
 in_use_lem c = sym c.uses.ensures ∙ c.if-not-uses.false
 
 pub check_clash-r-requires : goal.check_clash-r-requires

@@ -6,16 +6,14 @@ use Rattle.standard.specs.Table.{aliases}
 use Rattle.row_shapes.specs.Rows.{kind_is}
 use Rattle.table_check.specs.Verdicts.{use_is}
 use Rattle.table_check.proofs.Ordered.{first-bad, second-bad, third, aliases-used, clear-one, each-table, shape-sorted, ShapedEach, shaped-each, clash-aliases, clash-likely, clash-parents}
-use borrow.Author.Rules.{rules}
-use native.Mathlib.Omega.{arith}
 use Rattle.table_check.proofs.check_hinted.Goals as goal
 use Rattle.table_check.proofs.check_hinted.Goals.{Start}
 
-shaped : (b : goal.Start) → ShapedEach (use_is b.args.purpose) b.args.a.now b.args.l.now b.args.p.now
+shaped : (b : Start) → ShapedEach (use_is b.args.purpose) b.args.a.now b.args.l.now b.args.p.now
 shaped b = shaped-each _ _ _ _ b.requires.0
 
 -- the aliases can be searched, with their hints
-indexed : (b : goal.Start) → Indexed b.args.a.now b.args.hints.now
+indexed : (b : Start) → Indexed b.args.a.now b.args.hints.now
 indexed b = record { sorted = shape-sorted aliases _ (clear-one _ _ _ _ (sym (aliases-used _)) (shaped b).aliases); hinted = b.requires.1 }
 
 pub check_free-v-requires : goal.check_free-v-requires

@@ -1,13 +1,10 @@
 -- `table_check::check_one` meets its contract, test by test. Assumes nothing.
-use borrow.Author.Tests.{not-true, not-false}
 use mathlib.Core.Path.{sym, ap, ◌∙◌}
 use Rattle.standard.specs.Table.{used}
 use Rattle.row_shapes.specs.Rows.{kind_is}
 use Rattle.table_check.specs.declared.Test.{Test}
 use Rattle.table_check.specs.Verdicts.{fault_by}
 use Rattle.table_check.proofs.Ordered.{unused, tested-one}
-use borrow.Author.Rules.{rules}
-use native.Mathlib.Omega.{arith}
 use Rattle.table_check.proofs.check_one.Goals as goal
 
 pub returns-then-not-uses : goal.returns-then-not-uses

@@ -3,8 +3,6 @@ use mathlib.Core.Path.{sym, ap, ◌∙◌}
 use Rattle.standard.specs.Table.{shape_fault}
 use Rattle.row_shapes.specs.Rows.{fault_is}
 use Rattle.table_check.proofs.Ordered.{in-none, in_some}
-use borrow.Author.Rules.{rules}
-use native.Mathlib.Omega.{arith}
 use Rattle.table_check.proofs.check_shape.Goals as goal
 
 pub returns-in-Good : goal.returns-in-Good

@@ -1,8 +1,6 @@
 -- `table_check::check_size` meets its contract. Assumes nothing.
 use Rattle.standard.specs.Table.{size_fault}
 use Rattle.table_check.proofs.Ordered.{in-none, in_some, small, large}
-use borrow.Author.Rules.{rules}
-use native.Mathlib.Omega.{arith}
 use Rattle.table_check.proofs.check_size.Goals as goal
 
 pub returns-then-t-le32768 : goal.returns-then-t-le32768

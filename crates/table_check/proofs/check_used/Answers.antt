@@ -3,8 +3,6 @@ use mathlib.Core.Path.{sym, ap, ◌∙◌}
 use Rattle.table_check.specs.Verdicts.{verdict_is, use_is, fault_by}
 use Rattle.standard.proofs.Checks.{check-parts}
 use Rattle.table_check.proofs.Ordered.{first-bad, second-bad, third}
-use borrow.Author.Rules.{rules}
-use native.Mathlib.Omega.{arith}
 use Rattle.table_check.proofs.check_used.Goals as goal
 
 pub returns-in_default : goal.returns-in_default

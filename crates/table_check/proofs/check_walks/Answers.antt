@@ -1,10 +1,7 @@
 -- `table_check::check_walks` meets its contract. Assumes nothing.
 use mathlib.Core.Path.{sym, ◌∙◌}
-use borrow.Author.Tests.{not-true}
 use Rattle.row_shapes.specs.Rows.{kind_is}
 use Rattle.table_check.proofs.Ordered.{unused}
-use borrow.Author.Rules.{rules}
-use native.Mathlib.Omega.{arith}
 use Rattle.table_check.proofs.check_walks.Goals as goal
 
 pub returns-then-not-uses : goal.returns-then-not-uses

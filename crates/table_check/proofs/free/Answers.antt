@@ -4,8 +4,6 @@ use Rattle.row_shapes.specs.declared.Table.TheVariants.{Aliases, Likely, Parents
 use Rattle.row_shapes.specs.Rows.{kind_is}
 use Rattle.table_check.specs.Free.{free_row}
 use Rattle.table_check.proofs.Clashes.{shape_is, pass-parents, free-by, likely-threes, parent-threes}
-use borrow.Author.Rules.{rules}
-use native.Mathlib.Omega.{arith}
 use Rattle.table_check.proofs.free.Goals as goal
 
 pub alias_free-requires : goal.alias_free-requires

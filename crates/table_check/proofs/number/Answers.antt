@@ -1,8 +1,6 @@
 -- `table_check::number` meets its contract. Assumes nothing.
 use Rattle.standard.specs.Table.{table_number}
 use Rattle.row_shapes.specs.Rows.{kind_is}
-use borrow.Author.Rules.{rules}
-use native.Mathlib.Omega.{arith}
 use Rattle.table_check.proofs.number.Goals as goal
 
 pub returns-in-Aliases : goal.returns-in-Aliases

@@ -1,12 +1,10 @@
 -- `table_check::parent_free` meets its contract. Assumes nothing.
 use native.Mathlib.Omega.{arith}
-use borrow.Author.Tests.{not-true, not-false}
 use mathlib.Core.Path.{sym, ap, ◌∙◌}
 use Prim.Native.Nat.{◌-◌, ◌≤◌}
 use Rattle.parents.specs.Walk.{cut, reaches_from}
 use Rattle.table_check.proofs.Clashes.{TwoLine, two-line, parent-value, parent-walk, own_row}
 use Rattle.parents.proofs.Walks.{cut-length as cut-size, cut-cut as key-cut}
-use borrow.Author.Rules.{rules}
 use Rattle.table_check.proofs.parent_free.Goals as goal
 use Rattle.table_check.proofs.parent_free.Goals.{After-end_of-x}
 
@@ -14,10 +12,10 @@ pub returns-then-not-two_free : goal.returns-then-not-two_free
 returns-then-not-two_free c = parent-value _ _ _ (sym c.two_free.ensures ∙ c.if-not-two_free.true)
 
 -- the fields of the row
-fields : (c : goal.After-end_of-x) → TwoLine (cut c.args.p.now c.args.i c.args.e) c.end_of-x.result
+fields : (c : After-end_of-x) → TwoLine (cut c.args.p.now c.args.i c.args.e) c.end_of-x.result
 fields c = two-line _ _ c.end_of-x.ensures c.requires.5
 
-key : (c : goal.After-end_of-x) → c.end_of-x.result ≤ c.args.e - c.args.i
+key : (c : After-end_of-x) → c.end_of-x.result ≤ c.args.e - c.args.i
 key c =
     let n = cut-size c.args.p.now c.args.i c.args.e c.requires.3 c.requires.4 in
     let h = (fields c).room in

@@ -4,8 +4,6 @@ use Rattle.row_shapes.specs.declared.Table.{Table}
 use Rattle.row_shapes.specs.Rows.{kind_is}
 use Rattle.table_check.specs.Verdicts.{use_is, is_used}
 use Rattle.table_check.proofs.Ordered.{aliases-used}
-use borrow.Author.Rules.{rules}
-use native.Mathlib.Omega.{arith}
 use Rattle.table_check.proofs.uses.Goals as goal
 
 pub returns-in-Aliases : goal.returns-in-Aliases

@@ -1,8 +1,6 @@
 -- `table_check::uses_likely` meets its contract. Assumes nothing.
 use Rattle.standard.specs.Table.{table_number, in_use}
 use Rattle.table_check.specs.Verdicts.{of_table, as_used, any_used, is_used}
-use borrow.Author.Rules.{rules}
-use native.Mathlib.Omega.{arith}
 use Rattle.table_check.proofs.uses_likely.Goals as goal
 
 pub returns-in-Canonicalise : goal.returns-in-Canonicalise

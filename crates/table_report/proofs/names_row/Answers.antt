@@ -1,8 +1,6 @@
 -- `table_report::names_row` meets its contract. Assumes nothing.
 use borrow.Author.Tests.{eq-eqb, ne_eqb}
 use Rattle.table_report.specs.Line.{names_row}
-use borrow.Author.Rules.{rules}
-use native.Mathlib.Omega.{arith}
 use Rattle.table_report.proofs.names_row.Goals as goal
 
 pub returns-then-number-eq0 : goal.returns-then-number-eq0

@@ -2,9 +2,7 @@
 use native.Mathlib.Omega.{arith}
 use mathlib.Core.Path.{sym, ◌∙◌}
 use lib.Seq.{length-take-le}
-use borrow.Author.Tests.{not-true, not-false}
 use Rattle.table_report.proofs.Written as written
-use borrow.Author.Rules.{rules}
 use Rattle.table_report.proofs.put_line.Goals as goal
 
 pub returns-then-not-names_row : goal.returns-then-not-names_row

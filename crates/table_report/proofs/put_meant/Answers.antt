@@ -1,7 +1,6 @@
 -- `table_report::put_meant` meets its contract. Assumes nothing.
 use native.Mathlib.Omega.{arith}
 use Rattle.table_report.proofs.Written as written
-use borrow.Author.Rules.{rules}
 use Rattle.table_report.proofs.put_meant.Goals as goal
 
 pub returns-then-number-eq12 : goal.returns-then-number-eq12

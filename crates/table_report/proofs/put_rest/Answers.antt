@@ -1,7 +1,5 @@
 -- `table_report::put_rest` meets its contract. Assumes nothing.
 use Rattle.table_report.proofs.Written as written
-use borrow.Author.Rules.{rules}
-use native.Mathlib.Omega.{arith}
 use Rattle.table_report.proofs.put_rest.Goals as goal
 
 pub returns : goal.returns

@@ -1,16 +1,13 @@
 -- `table_report::put_row` meets its contract. Assumes nothing.
 use native.Mathlib.Omega.{arith}
-use mathlib.Core.Path.{◌≡◌, sym, ap, ◌∙◌}
-use mathlib.Core.List.{[]}
+use mathlib.Core.Path.{sym, ◌∙◌}
 use lib.Seq.{length-take-le}
-use borrow.Author.Tests.{not-true, not-false}
 use Rattle.byte_string.proofs.Ends.{end-le}
 use Rattle.tsv.specs.Shown.{shown}
 use Rattle.tsv.proofs.Laws.{field-length}
 use Rattle.standard.specs.Tag.{text}
 use Rattle.table_report.specs.Faults.{row_in}
 use Rattle.table_report.specs.Line.{row_for}
-use borrow.Author.Rules.{rules}
 use Rattle.table_report.proofs.put_row.Goals as goal
 
 pub returns-then-not-names_row : goal.returns-then-not-names_row

@@ -2,7 +2,6 @@
 use native.Mathlib.Omega.{arith}
 use Rattle.tsv.proofs.Laws.{table-word}
 use Rattle.table_report.proofs.Written as written
-use borrow.Author.Rules.{rules}
 use Rattle.table_report.proofs.put_verdict.Goals as goal
 
 pub put_number-q-requires : goal.put_number-q-requires

@@ -3,7 +3,6 @@ use native.Mathlib.Omega.{arith}
 use mathlib.Core.Path.{refl}
 use borrow.Author.Tests.{lt-ltb, le-ltb}
 use Rattle.table_report.specs.Line.{spot}
-use borrow.Author.Rules.{rules}
 use Rattle.table_report.proofs.spot_in.Goals as goal
 
 pub returns-then-len-place : goal.returns-then-len-place

@@ -2,7 +2,6 @@
 use native.Mathlib.Omega.{arith}
 use mathlib.Core.Path.{refl}
 use Rattle.table_report.proofs.Written as written
-use borrow.Author.Rules.{rules}
 use Rattle.table_report.proofs.write.Goals as goal
 
 pub returns-then-out-lt2048 : goal.returns-then-out-lt2048

@@ -1,7 +1,5 @@
 -- `test_api::code_found` meets its contract. Assumes nothing.
 use Rattle.test_api.proofs.Coded.{far-start, far-len, is_found_lem, not_found}
-use borrow.Author.Rules.{rules}
-use native.Mathlib.Omega.{arith}
 use Rattle.test_api.proofs.code_found.Goals as goal
 
 pub returns-then-start-ge2147483648 : goal.returns-then-start-ge2147483648

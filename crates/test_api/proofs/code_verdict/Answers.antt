@@ -4,8 +4,6 @@ use Prim.Native.Nat.{ℕ, ◌+◌, ◌*◌, ◌%◌}
 use Rattle.table_check.specs.Verdicts.{verdict_is}
 use Rattle.table_check.specs.declared.Verdict.{Verdict}
 use Rattle.test_api.specs.Codes.{fault_code}
-use borrow.Author.Rules.{rules}
-use native.Mathlib.Omega.{arith}
 use Rattle.test_api.proofs.code_verdict.Goals as goal
 
 pub returns-in-Good : goal.returns-in-Good

@@ -1,8 +1,6 @@
 -- `test_api::probe_check` meets its contract. Assumes nothing.
 use mathlib.Core.Path.{ap, ◌∙◌}
 use Rattle.test_api.specs.Codes.{fault_code}
-use borrow.Author.Rules.{rules}
-use native.Mathlib.Omega.{arith}
 use Rattle.test_api.proofs.probe_check.Goals as goal
 
 pub returns : goal.returns

@@ -1,7 +1,5 @@
 -- `aliases::keys::is_key` meets its contract. Assumes nothing.
 use Rattle.aliases.proofs.Slots.{key-leads, no_key}
-use borrow.Author.Rules.{rules}
-use native.Mathlib.Omega.{arith}
 use Rattle.aliases.proofs.keys.is_key.Goals as goal
 
 pub returns-then-v-eq0 : goal.returns-then-v-eq0

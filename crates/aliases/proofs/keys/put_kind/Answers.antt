@@ -2,8 +2,6 @@
 use mathlib.Core.Path.{refl}
 use Rattle.aliases.specs.Keys.{kind_key}
 use Rattle.aliases.proofs.Slots.{put_is}
-use borrow.Author.Rules.{rules}
-use native.Mathlib.Omega.{arith}
 use Rattle.aliases.proofs.keys.put_kind.Goals as goal
 
 pub returns-in-Language : goal.returns-in-Language

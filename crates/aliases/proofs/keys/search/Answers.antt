@@ -8,17 +8,16 @@ use lib.Seq.{length-take-le}
 use Rattle.standard.specs.Table.{Found as Located, located}
 use Rattle.aliases.specs.Keys.{kind_key, is_key}
 use Rattle.aliases.proofs.Slots.{kind-size, sized, written-key}
-use borrow.Author.Rules.{rules}
 use Rattle.aliases.proofs.keys.search.Goals as goal
 use Rattle.aliases.proofs.keys.search.Goals.{After-put-m, After-put_kind-n}
 
 abbrev zeros : List ℕ
 zeros = replicate 32 0
 
-first : (c : goal.After-put_kind-n) → length c.put_kind-n.new.out ≡ 32
+first : (c : After-put_kind-n) → length c.put_kind-n.new.out ≡ 32
 first c = sized zeros c.put_kind-n.new.out (kind_key c.args.kind) 32 0 refl c.put_kind-n.ensures.1
 
-second : (c : goal.After-put-m) → length c.put-m.new.out ≡ 32
+second : (c : After-put-m) → length c.put-m.new.out ≡ 32
 second c =
     sized c.put_kind-n.new.out c.put-m.new.out c.args.tag.now 32 c.put_kind-n.result (sized zeros c.put_kind-n.new.out (kind_key c.args.kind) 32 0 refl c.put_kind-n.ensures.1) c.put-m.ensures.1
 

@@ -4,7 +4,6 @@ use mathlib.Core.Path.{refl}
 use Rattle.table.specs.Hints.{slot_step, slot_from, slot_of}
 use Rattle.aliases.specs.Keys.{kind_key}
 use Rattle.aliases.proofs.Slots.{seed-is}
-use borrow.Author.Rules.{rules}
 use Rattle.aliases.proofs.keys.seed.Goals as goal
 
 pub returns-in-Language : goal.returns-in-Language

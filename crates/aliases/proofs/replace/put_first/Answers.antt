@@ -9,7 +9,6 @@ use Rattle.standard.specs.Tag.{Tag}
 use Rattle.subtag.specs.Bytes.{normal_byte, cased as raised_tag}
 use Rattle.subtag.proofs.Cased.{cased-length}
 use Rattle.aliases.proofs.Cased as cased-laws
-use borrow.Author.Rules.{rules}
 use Rattle.aliases.proofs.replace.put_first.Goals as goal
 
 pub returns-then-given-eq0 : goal.returns-then-given-eq0

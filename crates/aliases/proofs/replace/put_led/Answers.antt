@@ -3,13 +3,12 @@ use native.Mathlib.Numerals.{add-one}
 use native.Mathlib.Omega.{arith}
 use mathlib.Core.Path.{◌≡◌, sym, ap, ◌∙◌}
 use mathlib.Core.List.{◌∷◌}
-use Prim.Native.Nat.{ℕ, ◌+◌}
+use Prim.Native.Nat.{ℕ}
 use lib.ListN.{length, set, length-set}
 use lib.Seq.{sets}
 use Rattle.standard.specs.Reading.{optional}
 use Rattle.subtag.specs.Sections.{led}
 use Rattle.aliases.proofs.Keyed as keys
-use borrow.Author.Rules.{rules}
 use Rattle.aliases.proofs.replace.put_led.Goals as goal
 use Rattle.aliases.proofs.replace.put_led.Goals.{Else-src-eq0}
 
@@ -19,7 +18,7 @@ returns-then-src-eq0 c =
     let e = keys.led-none a.src.now c.if-src-eq0.true in
     (omega (arith, ap length e), ap (sets a.out.now a.at) (sym e))
 
-some : (c : goal.Else-src-eq0) → let s = c.args.src.now in led (optional s) ≡ 45 ∷ s
+some : (c : Else-src-eq0) → let s = c.args.src.now in led (optional s) ≡ 45 ∷ s
 some c = keys.led-some _ c.if-src-eq0.false
 
 pub bounds-out-at : goal.bounds-out-at

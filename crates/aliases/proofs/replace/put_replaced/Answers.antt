@@ -9,21 +9,20 @@ use Rattle.standard.specs.Table.{lookup, rows}
 use Rattle.aliases.specs.Replaced.{replaced_by}
 use Rattle.byte_string.proofs.Stores.{all_from}
 use Rattle.aliases.proofs.Keyed as keys
-use borrow.Author.Rules.{rules}
 use Rattle.aliases.proofs.replace.put_replaced.Goals as goal
 use Rattle.aliases.proofs.replace.put_replaced.Goals.{After-lookup_hinted-value, Else-found, Then-found}
 
-abbrev text : goal.After-lookup_hinted-value → List ℕ
+abbrev text : After-lookup_hinted-value → List ℕ
 text c =
     let a = c.args in
     replaced_by (lookup (rows a.aliases.now) a.key.now) (drop a.skip a.key.now)
 
-found : (c : goal.Then-found) → c.lookup_hinted-value.result.now ≡ (let a = c.args in replaced_by (lookup (rows a.aliases.now) a.key.now) (drop a.skip a.key.now))
+found : (c : Then-found) → c.lookup_hinted-value.result.now ≡ (let a = c.args in replaced_by (lookup (rows a.aliases.now) a.key.now) (drop a.skip a.key.now))
 found c =
     let sorted = c.requires.1 in
     c.lookup_hinted-value.ensures.result_value sorted ∙ keys.found-row _ _ _ (sym (c.lookup_hinted-value.ensures.found_after sorted) ∙ c.if-found.true)
 
-not_found : (c : goal.Else-found) → let a = c.args in take (length a.key.now - a.skip) (drop a.skip a.key.now) ≡ (let a = c.args in replaced_by (lookup (rows a.aliases.now) a.key.now) (drop a.skip a.key.now))
+not_found : (c : Else-found) → let a = c.args in take (length a.key.now - a.skip) (drop a.skip a.key.now) ≡ (let a = c.args in replaced_by (lookup (rows a.aliases.now) a.key.now) (drop a.skip a.key.now))
 not_found c =
     all_from c.args.skip c.args.key.now ∙ keys.no_row _ _ _ (sym (c.lookup_hinted-value.ensures.found_after c.requires.1) ∙ c.if-found.false)
 

@@ -13,16 +13,15 @@ use Rattle.subtag.specs.Sections.{led}
 use Rattle.aliases.specs.Replaced.{replaced_by, aliased_part}
 use Rattle.aliases.proofs.Cased as cased-laws
 use Rattle.aliases.proofs.Keyed as keys
-use borrow.Author.Rules.{rules}
 use Rattle.aliases.proofs.replace.write_aliased.Goals as goal
 use Rattle.aliases.proofs.replace.write_aliased.Goals.{After-put_first-e, Else-e-n}
 
-abbrev tag : goal.After-put_first-e → Tag
+abbrev tag : After-put_first-e → Tag
 tag c =
     let a = c.args in
     pick (raised_tag a.count (map normal_byte a.given.now)) a.brought.now
 
-key : (c : goal.After-put_first-e)
+key : (c : After-put_first-e)
     → keys.Keyed c.args.name.now (tag c) c.put_first-e.new.out
     c.put-n.result c.put_first-e.result
 key c =
@@ -32,7 +31,7 @@ key c =
     keys.keyed _ _ _ _ _ _ _ c.put-n.ensures.0 c.put-n.ensures.1 c.put_first-e.ensures.0 c.put_first-e.ensures.1 (omega arith)
 
 -- what is written, by the key's bytes
-part : (c : goal.Else-e-n)
+part : (c : Else-e-n)
     → (let a = c.args in
     let x = take c.put_first-e.result c.put_first-e.new.out in
     aliased_part a.aliases.now a.name.now (let a = c.args in pick (raised_tag a.count (map normal_byte a.given.now)) a.brought.now) ≡ led (optional (replaced_by (lookup (rows a.aliases.now) x) (drop c.put-n.result x))))

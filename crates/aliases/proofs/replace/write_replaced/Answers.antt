@@ -11,11 +11,10 @@ use Rattle.subtag.specs.Sections.{led}
 use Rattle.aliases.specs.Replaced.{replaced_by}
 use Rattle.byte_string.proofs.Stores.{all_from}
 use Rattle.aliases.proofs.Keyed as keys
-use borrow.Author.Rules.{rules}
 use Rattle.aliases.proofs.replace.write_replaced.Goals as goal
 use Rattle.aliases.proofs.replace.write_replaced.Goals.{After-lookup_hinted-value, Else-found, Then-found}
 
-abbrev text : goal.After-lookup_hinted-value → List ℕ
+abbrev text : After-lookup_hinted-value → List ℕ
 text c =
     let a = c.args in
     replaced_by (lookup (rows a.aliases.now) a.key.now) (drop a.skip a.key.now)
@@ -23,12 +22,12 @@ text c =
 abbrev bytes : List ℕ → List ℕ
 bytes t = led (optional t)
 
-found : (c : goal.Then-found) → bytes c.lookup_hinted-value.result.now ≡ bytes (let a = c.args in replaced_by (lookup (rows a.aliases.now) a.key.now) (drop a.skip a.key.now))
+found : (c : Then-found) → bytes c.lookup_hinted-value.result.now ≡ bytes (let a = c.args in replaced_by (lookup (rows a.aliases.now) a.key.now) (drop a.skip a.key.now))
 found c =
     let sorted = c.requires.1 in
     ap bytes (c.lookup_hinted-value.ensures.result_value sorted ∙ keys.found-row _ _ _ (sym (c.lookup_hinted-value.ensures.found_after sorted) ∙ c.if-found.true))
 
-not_found : (c : goal.Else-found)
+not_found : (c : Else-found)
     → let a = c.args in bytes (take (length a.key.now - a.skip) (drop a.skip a.key.now)) ≡ bytes (let a = c.args in replaced_by (lookup (rows a.aliases.now) a.key.now) (drop a.skip a.key.now))
 not_found c =
     ap bytes (all_from c.args.skip c.args.key.now ∙ keys.no_row _ _ _ (sym (c.lookup_hinted-value.ensures.found_after c.requires.1) ∙ c.if-found.false))

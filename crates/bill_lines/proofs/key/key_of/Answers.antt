@@ -4,7 +4,6 @@ use native.Mathlib.Omega.{arith}
 use Rattle.operations.proofs.Canonicalised.{canonicalised, formed-by, fits_by, in_order}
 use Rattle.bill_lines.specs.Keys.{key_is}
 use Rattle.bill_lines.proofs.Keying.{refused-key, made-key}
-use borrow.Author.Rules.{rules}
 use Rattle.bill_lines.proofs.key.key_of.Goals as goal
 
 pub returns-in_default : goal.returns-in_default

@@ -2,8 +2,6 @@
 use mathlib.Core.Path.{sym, ap, ◌∙◌}
 use Rattle.likely.specs.declared.forms.Outcome.{Outcome}
 use Rattle.bill_lines.specs.Keys.{without_rest}
-use borrow.Author.Rules.{rules}
-use native.Mathlib.Omega.{arith}
 use Rattle.bill_lines.proofs.key.without_rest.Goals as goal
 
 pub returns-in-Done : goal.returns-in-Done

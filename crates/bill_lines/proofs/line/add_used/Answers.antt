@@ -3,7 +3,6 @@ use mathlib.Core.Path.{sym, refl}
 use native.Mathlib.Omega.{arith}
 use lib.ListN.{take}
 use lib.Seq.{length-take-le}
-use borrow.Author.Rules.{rules}
 use Rattle.bill_lines.proofs.line.add_used.Goals as goal
 
 pub slice_bounds-add-end : goal.slice_bounds-add-end

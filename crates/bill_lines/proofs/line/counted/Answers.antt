@@ -1,8 +1,6 @@
 -- `bill_lines::line::counted` meets its contract. Assumes nothing.
 use mathlib.Core.Path.{refl}
 use Rattle.bill_lines.specs.State.{one_more}
-use borrow.Author.Rules.{rules}
-use native.Mathlib.Omega.{arith}
 use Rattle.bill_lines.proofs.line.counted.Goals as goal
 
 pub returns : goal.returns

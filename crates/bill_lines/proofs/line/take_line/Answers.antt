@@ -2,7 +2,6 @@
 use Prim.Native.Nat.{◌+◌}
 use native.Mathlib.Omega.{arith}
 use Rattle.bill_lines.proofs.Goings.{at-18, at-refused, at-17, at_added, bounded-only, more-bounded}
-use borrow.Author.Rules.{rules}
 use Rattle.bill_lines.proofs.line.take_line.Goals as goal
 
 pub returns-then-c-ge1000000 : goal.returns-then-c-ge1000000

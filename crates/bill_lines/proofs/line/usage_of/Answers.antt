@@ -2,7 +2,6 @@
 use native.Mathlib.Omega.{arith}
 use Rattle.bill_lines.specs.State.{used_is, used_by}
 use Rattle.bill_lines.proofs.Usages.{no_member_lem, no_key, has_key, positive}
-use borrow.Author.Rules.{rules}
 use Rattle.bill_lines.proofs.line.usage_of.Goals as goal
 
 pub returns-then-member-eq0 : goal.returns-then-member-eq0

@@ -1,16 +1,10 @@
 -- `bill_lines::piece::take_lines` meets its contract. Assumes nothing.
-use mathlib.Core.Path.{◌≡◌, refl, sym, ◌∙◌}
-use mathlib.Core.List.{List, []}
-use Prim.Native.Nat.{◌+◌, ◌-◌}
+use mathlib.Core.Path.{refl, sym, ◌∙◌}
+use Prim.Native.Nat.{◌-◌}
 use native.Mathlib.Omega.{arith}
-use lib.ListN.{length}
 use borrow.Author.Rules.{rules}
-use Rattle.standard.specs.Delivery.{Bytes}
-use Rattle.standard.specs.Table.{tables_of}
 use Rattle.lines.proofs.Pieces.{Line, line, next-above}
-use Rattle.bill_ledger.specs.Up.{Sized}
-use Rattle.bill_lines.specs.State.{Bounded, Going}
-use Rattle.bill_lines.proofs.Taking.{Taken, taken_none, taken_more, taken_next, taken-stopped, taken-all}
+use Rattle.bill_lines.proofs.Taking.{taken_none, taken_more, taken_next, taken-stopped, taken-all}
 use Rattle.bill_lines.proofs.piece.take_lines.Goals as goal
 use Rattle.bill_lines.proofs.piece.take_lines.Goals.{After-end_of-e}
 
@@ -24,7 +18,7 @@ returns-then-c-ne0 c =
     (l.invariant.3, l.invariant.4, λ ls g. taken-stopped _ _ ls _ _ _ _ c.if-c-ne0.true (l.invariant.5 ls g))
 
 -- the line: where it starts and ends
-the-line : (c : goal.After-end_of-e) → Line c.args.piece.now c.loop-at.at c.end_of-e.result
+the-line : (c : After-end_of-e) → Line c.args.piece.now c.loop-at.at c.end_of-e.result
 the-line c = line c.args.piece.now c.loop-at.at c.end_of-e.result c.loop-at-test.true c.end_of-e.ensures
 
 pub slice_bounds-take_line-count : goal.slice_bounds-take_line-count
@@ -47,8 +41,7 @@ loop-at-smaller c = omega (arith, next-above c.args.piece.now c.loop-at.at c.end
 pub loop-at-preserved : goal.loop-at-preserved
 loop-at-preserved c =
     let v = c.take_line-c in
-    let l = c.loop-at in
-    (
+    let l = c.loop-at in (
       v.ensures.1.keys ∙ sym c.requires.5.keys,
       v.ensures.1.counts ∙ sym c.requires.5.counts,
       search rules,

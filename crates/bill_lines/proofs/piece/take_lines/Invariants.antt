@@ -1,20 +1,17 @@
 -- `bill_lines::piece::take_lines` meets its contract. Assumes nothing.
-use mathlib.Core.Path.{◌≡◌, refl, sym, ◌∙◌}
+use mathlib.Core.Path.{◌≡◌}
 use mathlib.Core.List.{List, []}
 use Prim.Native.Nat.{◌+◌, ◌-◌}
-use native.Mathlib.Omega.{arith}
 use lib.ListN.{length}
-use borrow.Author.Rules.{rules}
 use Rattle.standard.specs.Delivery.{Bytes}
 use Rattle.standard.specs.Table.{tables_of}
-use Rattle.lines.proofs.Pieces.{Line, line, next-above}
 use Rattle.bill_ledger.specs.Up.{Sized}
 use Rattle.bill_lines.specs.State.{Bounded, Going}
-use Rattle.bill_lines.proofs.Taking.{Taken, taken_none, taken_more, taken_next, taken-stopped, taken-all}
+use Rattle.bill_lines.proofs.Taking.{Taken}
 use Rattle.bill_lines.proofs.piece.take_lines.Given as goal
 
 abbrev pub invariant-loop-at : goal.invariant-loop-at
-invariant-loop-at l =     (length l.keys ≡ length l.initial.keys) × (length l.counts ≡ length l.initial.counts) × (length l.out ≡ length l.initial.out) × Bounded l.c × Sized l.keys l.counts
+invariant-loop-at l = (length l.keys ≡ length l.initial.keys) × (length l.counts ≡ length l.initial.counts) × (length l.out ≡ length l.initial.out) × Bounded l.c × Sized l.keys l.counts
     × ((ls : List Bytes) → Going (tables_of l.aliases l.likely []) ls l.initial.c l.initial.keys l.initial.counts → Taken (tables_of l.aliases l.likely []) l.piece l.at ls l.c l.keys l.counts)
 
 abbrev pub decreases-loop-at : goal.decreases-loop-at

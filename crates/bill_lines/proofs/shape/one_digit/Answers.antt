@@ -3,7 +3,6 @@ use mathlib.Core.Path.{sym, ◌∙◌}
 use native.Mathlib.Omega.{arith}
 use Rattle.subtag.proofs.Bytes.{digit-in}
 use Rattle.bill_lines.proofs.Shapes.{one-other, one-digit}
-use borrow.Author.Rules.{rules}
 use Rattle.bill_lines.proofs.shape.one_digit.Goals as goal
 
 pub overflow_sub-result : goal.overflow_sub-result

@@ -1,7 +1,5 @@
 -- `bill_lines::shape::shape_of` meets its contract. Assumes nothing.
 use Rattle.bill_lines.proofs.Shapes.{no-tab, one-shape, two-shape, wrong_size_lem}
-use borrow.Author.Rules.{rules}
-use native.Mathlib.Omega.{arith}
 use Rattle.bill_lines.proofs.shape.shape_of.Goals as goal
 
 pub returns-then-line-tab : goal.returns-then-line-tab

@@ -1,10 +1,8 @@
 -- `bill_lines::shape::two_digits` meets its contract. Assumes nothing.
 use mathlib.Core.Path.{sym, ◌∙◌}
 use native.Mathlib.Omega.{arith}
-use borrow.Author.Tests.{not-true, not-false}
 use Rattle.subtag.proofs.Bytes.{digit-in}
 use Rattle.bill_lines.proofs.Shapes.{tens-none, tens-most, two-other, two-over, two_digits}
-use borrow.Author.Rules.{rules}
 use Rattle.bill_lines.proofs.shape.two_digits.Goals as goal
 
 pub returns-then-tens-eq0 : goal.returns-then-tens-eq0

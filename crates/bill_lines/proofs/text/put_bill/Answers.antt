@@ -3,7 +3,6 @@ use native.Mathlib.Omega.{arith}
 use Rattle.bill_ledger.specs.Places.{entries_from}
 use Rattle.bill_lines.specs.Text.{last_text, entries_text}
 use Rattle.bill_lines.proofs.Texts.{bill-written}
-use borrow.Author.Rules.{rules}
 use Rattle.bill_lines.proofs.text.put_bill.Goals as goal
 
 pub returns : goal.returns

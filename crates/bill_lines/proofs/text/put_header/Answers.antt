@@ -1,8 +1,6 @@
 -- `bill_lines::text::put_header` meets its contract. Assumes nothing.
 use Rattle.bill_lines.specs.Text.{header}
 use Rattle.bill_lines.proofs.Texts.{header-put}
-use borrow.Author.Rules.{rules}
-use native.Mathlib.Omega.{arith}
 use Rattle.bill_lines.proofs.text.put_header.Goals as goal
 
 pub returns : goal.returns

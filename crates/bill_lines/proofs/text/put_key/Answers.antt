@@ -2,7 +2,6 @@
 use mathlib.Core.Path.{refl}
 use native.Mathlib.Omega.{arith}
 use Rattle.bill_lines.proofs.Texts.{key-put}
-use borrow.Author.Rules.{rules}
 use Rattle.bill_lines.proofs.text.put_key.Goals as goal
 
 pub returns : goal.returns

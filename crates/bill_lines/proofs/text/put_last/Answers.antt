@@ -1,7 +1,6 @@
 -- `bill_lines::text::put_last` meets its contract. Assumes nothing.
 use native.Mathlib.Omega.{arith}
 use Rattle.bill_lines.proofs.Texts.{last-start, last_written}
-use borrow.Author.Rules.{rules}
 use Rattle.bill_lines.proofs.text.put_last.Goals as goal
 
 pub put_number-requires : goal.put_number-requires

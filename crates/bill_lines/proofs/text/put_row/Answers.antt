@@ -1,7 +1,6 @@
 -- `bill_lines::text::put_row` meets its contract. Assumes nothing.
 use native.Mathlib.Omega.{arith}
 use Rattle.bill_lines.proofs.Texts.{row_written}
-use borrow.Author.Rules.{rules}
 use Rattle.bill_lines.proofs.text.put_row.Goals as goal
 
 pub returns : goal.returns

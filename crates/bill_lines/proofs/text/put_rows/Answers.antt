@@ -1,10 +1,9 @@
 -- `bill_lines::text::put_rows` meets its contract. Assumes nothing.
-use mathlib.Core.Path.{◌≡◌, refl}
-use Prim.Native.Nat.{◌+◌, ◌-◌, ◌*◌, ◌≤◌}
+use mathlib.Core.Path.{refl}
+use Prim.Native.Nat.{◌-◌}
 use native.Mathlib.Omega.{arith}
-use lib.ListN.{length}
 use borrow.Author.Rules.{rules}
-use Rattle.bill_lines.proofs.Texts.{Rows, rows_none, rows_more, rows_all}
+use Rattle.bill_lines.proofs.Texts.{rows_none, rows_more, rows_all}
 use Rattle.bill_lines.proofs.text.put_rows.Goals as goal
 
 pub loop-i-init : goal.loop-i-init

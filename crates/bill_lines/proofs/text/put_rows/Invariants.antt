@@ -1,10 +1,8 @@
 -- `bill_lines::text::put_rows` meets its contract. Assumes nothing.
-use mathlib.Core.Path.{◌≡◌, refl}
+use mathlib.Core.Path.{◌≡◌}
 use Prim.Native.Nat.{◌+◌, ◌-◌, ◌*◌, ◌≤◌}
-use native.Mathlib.Omega.{arith}
 use lib.ListN.{length}
-use borrow.Author.Rules.{rules}
-use Rattle.bill_lines.proofs.Texts.{Rows, rows_none, rows_more, rows_all}
+use Rattle.bill_lines.proofs.Texts.{Rows}
 use Rattle.bill_lines.proofs.text.put_rows.Given as goal
 
 abbrev pub invariant-loop-i : goal.invariant-loop-i

@@ -6,7 +6,6 @@ use Rattle.tsv.specs.Fields.{decimal, field, table_text}
 use Rattle.bill_ledger.specs.Places.{entries_from}
 use Rattle.bill_lines.specs.Text.{header, last_text, entries_text, counts_text}
 use Rattle.bill_lines.proofs.Bills.{text-good, text-table, text-stopped, as-text}
-use borrow.Author.Rules.{rules}
 use Rattle.bill_lines.proofs.text.put_text.Goals as goal
 
 pub returns-then-c-eq0 : goal.returns-then-c-eq0

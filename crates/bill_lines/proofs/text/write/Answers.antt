@@ -5,7 +5,6 @@ use native.Mathlib.Omega.{arith}
 use lib.ListN.{length}
 use Rattle.bill_lines.specs.Text.{counts_text}
 use Rattle.bill_lines.proofs.Bills.{none-short, none-keys, none-counts, none-many, all-written, as-text}
-use borrow.Author.Rules.{rules}
 use Rattle.bill_lines.proofs.text.write.Goals as goal
 
 pub returns-then-out-lt65536 : goal.returns-then-out-lt65536

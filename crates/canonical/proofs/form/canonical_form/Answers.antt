@@ -1,8 +1,6 @@
 -- `canonical::form::canonical_form` meets its contract. Assumes nothing.
 use Rattle.canonical.proofs.Outcomes as outcomes
-use borrow.Author.Rules.{rules}
 use Rattle.canonical.proofs.TestedAliases.{tested-with}
-use native.Mathlib.Omega.{arith}
 use Rattle.canonical.proofs.form.canonical_form.Goals as goal
 
 pub form_of-requires : goal.form_of-requires

@@ -1,10 +1,6 @@
 -- `canonical::form::count_subtags` meets its contract. Assumes nothing.
-use borrow.Author.Rules.{rules}
 use native.Mathlib.Omega.{arith}
-use mathlib.Core.Path.{◌≡◌}
-use Prim.Native.Nat.{◌+◌, ◌-◌, ◌≤◌}
-use lib.ListN.{length, drop}
-use Rattle.canonical.specs.Form.{hyphens}
+use Prim.Native.Nat.{◌-◌}
 use Rattle.canonical.proofs.Counts as counts
 use Rattle.canonical.proofs.form.count_subtags.Goals as goal
 

@@ -1,11 +1,8 @@
 -- `canonical::form::count_subtags` meets its contract. Assumes nothing.
-use borrow.Author.Rules.{rules}
-use native.Mathlib.Omega.{arith}
 use mathlib.Core.Path.{◌≡◌}
 use Prim.Native.Nat.{◌+◌, ◌-◌, ◌≤◌}
 use lib.ListN.{length, drop}
 use Rattle.canonical.specs.Form.{hyphens}
-use Rattle.canonical.proofs.Counts as counts
 use Rattle.canonical.proofs.form.count_subtags.Given as goal
 
 abbrev pub invariant-loop-i : goal.invariant-loop-i

@@ -1,7 +1,6 @@
 -- `canonical::form::form_of` meets its contract. Assumes nothing.
 use native.Mathlib.Omega.{arith}
 use Rattle.canonical.proofs.Outcomes as outcomes
-use borrow.Author.Rules.{rules}
 use Rattle.canonical.proofs.form.form_of.Goals as goal
 
 pub returns-then-f-gt255 : goal.returns-then-f-gt255

@@ -1,7 +1,6 @@
 -- `canonical::form::hyphen` meets its contract. Assumes nothing.
 use native.Mathlib.Omega.{arith}
 use Rattle.canonical.proofs.Counts as counts
-use borrow.Author.Rules.{rules}
 use Rattle.canonical.proofs.form.hyphen.Goals as goal
 
 pub returns-then-b-eq45 : goal.returns-then-b-eq45

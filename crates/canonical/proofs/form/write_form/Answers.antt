@@ -1,19 +1,18 @@
 -- `canonical::form::write_form` meets its contract. Assumes nothing.
 use native.Mathlib.Omega.{arith}
-use mathlib.Core.Path.{◌≡◌}
 use Prim.Native.Nat.{◌+◌, ◌≤◌}
 use lib.ListN.{length}
 use Rattle.standard.specs.Reading.{split, identifier_of}
 use Rattle.canonical.proofs.Formed as formed
 use Rattle.canonical.proofs.form.write_form.Goals as goal
-use Rattle.canonical.proofs.form.write_form.Goals.{Start, After-write_variants-variants}
+use Rattle.canonical.proofs.form.write_form.Goals.{After-write_variants-variants, Start}
 
 -- the sections, from the start
-sections : (b : goal.Start) → formed.Lent b.args.id.now (identifier_of (split b.args.id.now)) b.args.p.region b.args.p.variants b.args.p.extensions
+sections : (b : Start) → formed.Lent b.args.id.now (identifier_of (split b.args.id.now)) b.args.p.region b.args.p.variants b.args.p.extensions
 sections b = formed.lent b.args.id.now b.requires.0 b.args.p b.requires.1
 
 -- the sizes add up
-size : (c : goal.After-write_variants-variants)
+size : (c : After-write_variants-variants)
     → c.write_variants-variants.result + length (formed.e_bytes c.args.aliases.now c.args.id.now c.requires.2.passes c.requires.0 c.args.p c.requires.1 c.write_three-ends.result c.write_three-ends.ensures.0)
     + length (formed.p_bytes c.args.aliases.now c.args.id.now c.requires.2.passes c.requires.0 c.args.p c.requires.1 c.write_three-ends.result c.write_three-ends.ensures.0) ≤ 476
 size c =

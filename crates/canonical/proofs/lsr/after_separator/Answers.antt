@@ -2,7 +2,6 @@
 use native.Mathlib.Omega.{arith}
 use mathlib.Core.Path.{sym}
 use Rattle.canonical.proofs.Places as places
-use borrow.Author.Rules.{rules}
 use Rattle.canonical.proofs.lsr.after_separator.Goals as goal
 
 pub returns-then-at-end : goal.returns-then-at-end

@@ -6,7 +6,6 @@ use lib.ListN.{take, length-map}
 use Rattle.subtag.specs.Bytes.{normal_byte}
 use lib.Seq.{length-take-le}
 use Rattle.canonical.proofs.Front as front
-use borrow.Author.Rules.{rules}
 use Rattle.canonical.proofs.lsr.put_language.Goals as goal
 
 pub slice_bounds-put_normalised-end : goal.slice_bounds-put_normalised-end

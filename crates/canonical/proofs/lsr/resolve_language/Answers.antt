@@ -4,7 +4,6 @@ use mathlib.Core.Path.{ap, ◌∙◌}
 use lib.ListN.{length}
 use lib.Seq.{sets}
 use Rattle.canonical.proofs.Cores as cores
-use borrow.Author.Rules.{rules}
 use Rattle.canonical.proofs.lsr.resolve_language.Goals as goal
 
 pub slice_bounds-put_replaced-end : goal.slice_bounds-put_replaced-end

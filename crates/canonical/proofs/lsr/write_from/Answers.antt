@@ -9,12 +9,11 @@ use Rattle.canonical.proofs.Cores as cores
 use Rattle.standard.specs.Table.{script_key, region_key}
 use Rattle.canonical.specs.Three.{part_bytes}
 use Rattle.byte_string.proofs.Stores as stores
-use borrow.Author.Rules.{rules}
 use Rattle.byte_string.proofs.Ends.{end-le}
 use Rattle.canonical.proofs.lsr.write_from.Goals as goal
 use Rattle.canonical.proofs.lsr.write_from.Goals.{After-after_separator-h, After-end_of-e}
 
-short : (c : goal.After-end_of-e) → (c.end_of-e.result ≤ 17) × (c.end_of-e.result ≤ length c.args.w.now)
+short : (c : After-end_of-e) → (c.end_of-e.result ≤ 17) × (c.end_of-e.result ≤ length c.args.w.now)
 short c =
     let n = cores.word_small c.args.aliases.now c.args.id.now c.requires.2.passes c.requires.0 in
     let h = end-le 45 c.args.w.now 0 in
@@ -23,7 +22,7 @@ short c =
 pub script_end-s-requires : goal.script_end-s-requires
 script_end-s-requires c = omega (arith, (short (goal.at.script_end-s-requires c).After-end_of-e).0)
 
-facts : (c : goal.After-after_separator-h) → let a = c.args in
+facts : (c : After-after_separator-h) → let a = c.args in
     cores.Written a.aliases.now a.id.now a.w.now a.p c.end_of-e.result c.script_end-s.result c.script_start-g.result c.after_separator-h.result
 facts c =
     cores.written c.args.aliases.now c.args.id.now c.requires.2.passes c.requires.0 c.args.w.now c.args.p c.requires.1 c.requires.3 _ _ c.end_of-e.ensures c.script_end-s.ensures _ _ c.script_start-g.ensures.0 c.after_separator-h.ensures.0

@@ -6,7 +6,6 @@ use Prim.Native.Nat.{ℕ, ◌+◌}
 use lib.ListN.{length}
 use lib.Seq.{sets}
 use Rattle.canonical.proofs.Places as places
-use borrow.Author.Rules.{rules}
 use Rattle.canonical.proofs.lsr.write_subtag.Goals as goal
 
 pub write_aliased-requires : goal.write_aliased-requires

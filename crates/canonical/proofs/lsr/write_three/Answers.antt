@@ -5,7 +5,6 @@ use Prim.Native.Nat.{◌≤◌}
 use lib.ListN.{length}
 use lib.Seq.{length-take-le}
 use Rattle.aliases.proofs.Keyed as keys
-use borrow.Author.Rules.{rules}
 use Rattle.canonical.proofs.lsr.write_three.Goals as goal
 
 pub slice_bounds-write_from-end : goal.slice_bounds-write_from-end

@@ -1,8 +1,7 @@
 -- `canonical::variants::resolve_variants` meets its contract. The loop's invariant: what is left, put behind what is
 -- written, gives the whole. Assumes nothing.
-use borrow.Author.Rules.{rules}
 use native.Mathlib.Omega.{arith}
-use mathlib.Core.Path.{◌≡◌, refl}
+use mathlib.Core.Path.{refl}
 use Prim.Native.Nat.{◌+◌, ◌-◌, ◌≤◌}
 use lib.ListN.{length}
 use Rattle.canonical.proofs.Places as places
@@ -27,11 +26,10 @@ pub slice_bounds-scan-end : goal.slice_bounds-scan-end
 slice_bounds-scan-end c = omega (arith, c.loop-at.invariant.0)
 
 -- the variant at hand
-fits : (c : goal.After-scan-t) → let l = c.loop-at in
+fits : (c : After-scan-t) → let l = c.loop-at in
     (l.at + 1 + c.scan-t.result.len ≤ length c.args.s.now) × (c.scan-t.result.len ≤ 8)
 fits c =
-    let l = c.loop-at in
-    (
+    let l = c.loop-at in (
       resolves.stop-fits c.args.aliases.now c.args.s.now c.args.out.now l.at l.out l.end l.invariant.1 (omega arith) c.scan-t.result c.scan-t.ensures,
       resolves.tag_small c.args.aliases.now c.args.s.now c.args.out.now l.at l.out l.end l.invariant.1 (omega arith) c.scan-t.result c.scan-t.ensures,
     )

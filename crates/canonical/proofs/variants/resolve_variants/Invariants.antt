@@ -1,11 +1,8 @@
 -- `canonical::variants::resolve_variants` meets its contract. The loop's invariant: what is left, put behind what is
 -- written, gives the whole. Assumes nothing.
-use borrow.Author.Rules.{rules}
-use native.Mathlib.Omega.{arith}
-use mathlib.Core.Path.{◌≡◌, refl}
-use Prim.Native.Nat.{◌+◌, ◌-◌, ◌≤◌}
+use mathlib.Core.Path.{◌≡◌}
+use Prim.Native.Nat.{◌-◌}
 use lib.ListN.{length}
-use Rattle.canonical.proofs.Places as places
 use Rattle.canonical.proofs.Resolves as resolves
 use Rattle.canonical.proofs.variants.resolve_variants.Given as goal
 

@@ -7,7 +7,6 @@ use lib.ListN.{length, take}
 use lib.Seq.{sets, length-take-le}
 use Rattle.subtag.specs.Sections.{tags_of}
 use Rattle.canonical.proofs.Merged as merged
-use borrow.Author.Rules.{rules}
 use Rattle.canonical.proofs.variants.write_variants.Goals as goal
 use Rattle.canonical.proofs.variants.write_variants.Goals.{After-resolve_variants-m}
 
@@ -20,13 +19,13 @@ pub resolve_variants-m-requires : goal.resolve_variants-m-requires
 resolve_variants-m-requires c =
     (c.requires.0, c.requires.1, c.requires.3.indexed, omega (arith, merged.resolved-fits c.args.aliases.now c.requires.3.passes c.args.s.now c.requires.0 c.requires.2 c.requires.4, c.buffer-scratch.ensures))
 
-fits : (c : goal.After-resolve_variants-m) → (c.resolve_variants-m.result ≤ length c.resolve_variants-m.new.out) × (c.resolve_variants-m.result ≤ 459)
+fits : (c : After-resolve_variants-m) → (c.resolve_variants-m.result ≤ length c.resolve_variants-m.new.out) × (c.resolve_variants-m.result ≤ 459)
 fits c =
     let n = merged.resolved-fits c.args.aliases.now c.requires.3.passes c.args.s.now c.requires.0 c.requires.2 c.requires.4 in
     (omega (arith, c.resolve_variants-m.ensures.0, c.buffer-scratch.ensures), omega (arith, c.resolve_variants-m.ensures.0))
 
 -- the section of the replaced variants
-part : (c : goal.After-resolve_variants-m) → merged.Section c.args.aliases.now c.requires.3.passes (tags_of c.args.s.now) (take c.resolve_variants-m.result c.resolve_variants-m.new.out)
+part : (c : After-resolve_variants-m) → merged.Section c.args.aliases.now c.requires.3.passes (tags_of c.args.s.now) (take c.resolve_variants-m.result c.resolve_variants-m.new.out)
 part c =
     merged.scratch c.args.aliases.now c.requires.3.passes c.args.s.now c.requires.0 c.requires.2 c.requires.4 _ _ _ c.resolve_variants-m.ensures.0 c.resolve_variants-m.ensures.1 (fits c).0
 

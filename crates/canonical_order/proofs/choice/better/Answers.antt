@@ -1,8 +1,6 @@
 -- `canonical_order::choice::better` meets its contract. Assumes nothing.
-use borrow.Author.Rules.{rules}
 use borrow.Author.Tests.{le-leb, lt-leb, lt-ltb, le-ltb}
 use Rattle.canonical_order.specs.Section.{better_of}
-use native.Mathlib.Omega.{arith}
 use Rattle.canonical_order.proofs.choice.better.Goals as goal
 
 pub returns-then-width-len : goal.returns-then-width-len

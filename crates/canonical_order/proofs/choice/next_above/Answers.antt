@@ -1,11 +1,7 @@
 -- `canonical_order::choice::next_above` meets its contract. Assumes nothing.
-use borrow.Author.Rules.{rules}
 use native.Mathlib.Omega.{arith}
-use mathlib.Core.Path.{◌≡◌, refl, sym, ◌∙◌}
-use Prim.Native.Nat.{◌-◌, ◌≤◌}
-use lib.ListN.{length, drop}
-use Rattle.subtag.specs.Sections.{tags_of, Led}
-use Rattle.canonical_order.specs.Section.{pick_from, no_head}
+use mathlib.Core.Path.{refl, sym, ◌∙◌}
+use Rattle.canonical_order.specs.Section.{no_head}
 use Rattle.canonical_order.proofs.Picks as picks
 use Rattle.canonical_order.proofs.choice.next_above.Goals as goal
 use Rattle.canonical_order.proofs.choice.next_above.Goals.{After-scan-t}
@@ -14,7 +10,7 @@ pub loop-at-init : goal.loop-at-init
 unfolding no_head
 loop-at-init c = (omega arith, c.requires.0, refl)
 
-stepped : (c : goal.After-scan-t)
+stepped : (c : After-scan-t)
     → picks.Stepped c.args.s.now c.loop-at.at c.scan-t.result
 stepped c =
     picks.stepped _ _ _ c.loop-at-test.true c.loop-at.invariant.1 c.scan-t.ensures

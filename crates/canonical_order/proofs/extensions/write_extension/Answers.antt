@@ -1,5 +1,4 @@
 -- `canonical_order::extensions::write_extension` meets its contract. Assumes nothing.
-use borrow.Author.Rules.{rules}
 use native.Mathlib.Omega.{arith}
 use mathlib.Core.Path.{refl, ◌∙◌}
 use mathlib.Core.List.{List, map}
@@ -17,10 +16,10 @@ pub bounds-g-1 : goal.bounds-g-1
 bounds-g-1 c =
     (extensions.one c.args.g.now (lower_byte (get_or c.args.g.now 1 0)) c.requires.2 c.requires.3 c.requires.4 refl).long
 
-abbrev text : goal.After-lower-b → List ℕ
+abbrev text : After-lower-b → List ℕ
 text c = c.args.g.now
 
-one : (c : goal.After-lower-b) → extensions.One (text c) (take 2 (text c)) (take (length (text c) - 2) (drop 2 (text c))) c.lower-b.result
+one : (c : After-lower-b) → extensions.One (text c) (take 2 (text c)) (take (length (text c) - 2) (drop 2 (text c))) c.lower-b.result
 one c =
     extensions.one (text c) c.lower-b.result c.requires.2 c.requires.3 c.requires.4 c.lower-b.ensures
 

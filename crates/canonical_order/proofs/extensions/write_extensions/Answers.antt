@@ -1,10 +1,9 @@
 -- `canonical_order::extensions::write_extensions` meets its contract. Assumes nothing.
 use native.Mathlib.Omega.{arith}
 use mathlib.Core.List.{List}
-use Prim.Native.Nat.{ℕ, ◌-◌}
+use Prim.Native.Nat.{ℕ}
 use Rattle.canonical_order.proofs.Pending as sorted
 use Rattle.canonical_order.proofs.Arranging as extensions
-use borrow.Author.Rules.{rules}
 use Rattle.canonical_order.proofs.extensions.write_extensions.Goals as goal
 use Rattle.canonical_order.proofs.extensions.write_extensions.Goals.{After-group_end-end}
 
@@ -28,11 +27,11 @@ group_end-end-requires c =
     let n = extensions.next_one _ _ _ c.requires.2 c.requires.3 c.requires.4 _ _ _ _ c.next_above-h.ensures l.invariant c.if-s-from.false in
     (n.fits, n.begins)
 
-abbrev text : goal.After-group_end-end → List ℕ
+abbrev text : After-group_end-end → List ℕ
 text c = c.args.s.now
 
 -- the group that is written
-group : (c : goal.After-group_end-end) → sorted.GroupAt 1 (text c) c.next_above-h.result.at c.next_above-h.result.next c.group_end-end.result
+group : (c : After-group_end-end) → sorted.GroupAt 1 (text c) c.next_above-h.result.at c.next_above-h.result.next c.group_end-end.result
 group c =
     let l = c.loop-h in
     extensions.its-group _ _ _ c.requires.2 c.requires.3 c.requires.4 _ _ _ _ c.next_above-h.ensures l.invariant c.if-s-from.false _ c.group_end-end.ensures

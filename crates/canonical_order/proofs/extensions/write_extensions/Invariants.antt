@@ -1,10 +1,6 @@
 -- `canonical_order::extensions::write_extensions` meets its contract. Assumes nothing.
-use native.Mathlib.Omega.{arith}
-use mathlib.Core.List.{List}
-use Prim.Native.Nat.{ℕ, ◌-◌}
-use Rattle.canonical_order.proofs.Pending as sorted
+use Prim.Native.Nat.{◌-◌}
 use Rattle.canonical_order.proofs.Arranging as extensions
-use borrow.Author.Rules.{rules}
 use Rattle.canonical_order.proofs.extensions.write_extensions.Given as goal
 
 abbrev pub invariant-loop-h : goal.invariant-loop-h

@@ -1,5 +1,4 @@
 -- `canonical_order::extensions::write_fields` meets its contract. Assumes nothing.
-use borrow.Author.Rules.{rules}
 use native.Mathlib.Omega.{arith}
 use mathlib.Core.Path.{sym}
 use mathlib.Core.Bool.{false}
@@ -17,10 +16,10 @@ use Rattle.canonical_order.proofs.extensions.write_fields.Goals.{After-first_of-
 pub first_of-k-requires : goal.first_of-k-requires
 first_of-k-requires c = (omega arith, c.requires.2)
 
-abbrev text : goal.After-first_of-k → List ℕ
+abbrev text : After-first_of-k → List ℕ
 text c = c.args.s.now
 
-parts : (c : goal.After-first_of-k) → fields.FieldsAt (text c) c.first_of-k.result (take c.first_of-k.result (text c)) (take (length (text c) - c.first_of-k.result) (drop c.first_of-k.result (text c)))
+parts : (c : After-first_of-k) → fields.FieldsAt (text c) c.first_of-k.result (take c.first_of-k.result (text c)) (take (length (text c) - c.first_of-k.result) (drop c.first_of-k.result (text c)))
 parts c =
     fields.fields (text c) c.first_of-k.result c.requires.2 c.requires.3 c.requires.4 c.first_of-k.ensures
 

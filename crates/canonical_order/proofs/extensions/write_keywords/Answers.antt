@@ -1,5 +1,4 @@
 -- `canonical_order::extensions::write_keywords` meets its contract. Assumes nothing.
-use borrow.Author.Rules.{rules}
 use native.Mathlib.Omega.{arith}
 use mathlib.Core.Path.{sym}
 use mathlib.Core.Bool.{true, false}
@@ -13,11 +12,11 @@ use Rattle.canonical_order.proofs.Writes as writes
 use Rattle.canonical_order.proofs.extensions.write_keywords.Goals as goal
 use Rattle.canonical_order.proofs.extensions.write_keywords.Goals.{After-group_end-k}
 
-abbrev text : goal.After-group_end-k → List ℕ
+abbrev text : After-group_end-k → List ℕ
 text c = c.args.s.now
 
 -- the two parts
-parts : (c : goal.After-group_end-k) → boundary.Keywords (text c) c.group_end-k.result (take c.group_end-k.result (text c)) (take (length (text c) - c.group_end-k.result) (drop c.group_end-k.result (text c)))
+parts : (c : After-group_end-k) → boundary.Keywords (text c) c.group_end-k.result (take c.group_end-k.result (text c)) (take (length (text c) - c.group_end-k.result) (drop c.group_end-k.result (text c)))
 parts c =
     boundary.keywords (text c) c.group_end-k.result c.requires.2 c.requires.3 c.requires.4 c.group_end-k.ensures
 

@@ -1,5 +1,4 @@
 -- `canonical_order::extensions::write_part` meets its contract. Assumes nothing.
-use borrow.Author.Rules.{rules}
 use native.Mathlib.Omega.{arith}
 use mathlib.Core.Path.{sym, ap, ◌∙◌}
 use mathlib.Core.Bool.{false}
@@ -29,10 +28,10 @@ slice_bounds-scan-start c = let n = c.if-s-eq0.false in omega arith
 pub slice_bounds-scan-end : goal.slice_bounds-scan-end
 slice_bounds-scan-end c = let n = c.if-s-eq0.false in omega arith
 
-filled : (c : goal.After-scan-t) → 0 < length c.args.s.now
+filled : (c : After-scan-t) → 0 < length c.args.s.now
 filled c = let n = c.if-s-eq0.false in omega arith
 
-first : (c : goal.After-scan-t) → (1 + c.scan-t.result.len ≤ length c.args.s.now) × Led (drop (1 + c.scan-t.result.len) c.args.s.now)
+first : (c : After-scan-t) → (1 + c.scan-t.result.len ≤ length c.args.s.now) × Led (drop (1 + c.scan-t.result.len) c.args.s.now)
 first c = fields.part-first _ _ (filled c) c.requires.2 c.scan-t.ensures
 
 pub overflow_add-len : goal.overflow_add-len
@@ -41,10 +40,10 @@ overflow_add-len c = let f = first (goal.at.overflow_add-len c).After-scan-t in 
 pub first_of-v-requires : goal.first_of-v-requires
 first_of-v-requires c = first (goal.at.first_of-v-requires c).After-scan-t
 
-abbrev text : goal.After-first_of-v → List ℕ
+abbrev text : After-first_of-v → List ℕ
 text c = c.args.s.now
 
-part : (c : goal.After-first_of-v) → fields.PartAt (text c) c.first_of-v.result (take c.first_of-v.result (text c)) (take (length (text c) - c.first_of-v.result) (drop c.first_of-v.result (text c)))
+part : (c : After-first_of-v) → fields.PartAt (text c) c.first_of-v.result (take c.first_of-v.result (text c)) (take (length (text c) - c.first_of-v.result) (drop c.first_of-v.result (text c)))
 part c =
     fields.part (text c) c.first_of-v.result _ (let n = c.if-s-eq0.false in omega arith) c.requires.2 c.requires.3 c.requires.4 c.scan-t.ensures c.first_of-v.ensures
 

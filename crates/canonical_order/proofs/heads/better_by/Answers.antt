@@ -1,8 +1,6 @@
 -- `canonical_order::heads::better_by` meets its contract. Assumes nothing.
 use borrow.Author.Tests.{lt-ltb, le-ltb}
 use Rattle.canonical_order.specs.Keyed.{better_by}
-use borrow.Author.Rules.{rules}
-use native.Mathlib.Omega.{arith}
 use Rattle.canonical_order.proofs.heads.better_by.Goals as goal
 
 pub returns-then-key-last : goal.returns-then-key-last

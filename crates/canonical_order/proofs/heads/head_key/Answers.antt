@@ -1,8 +1,6 @@
 -- `canonical_order::heads::head_key` meets its contract. Assumes nothing.
 use borrow.Author.Tests.{le-leb, lt-leb}
 use Rattle.canonical_order.specs.Keyed.{head_key}
-use borrow.Author.Rules.{rules}
-use native.Mathlib.Omega.{arith}
 use Rattle.canonical_order.proofs.heads.head_key.Goals as goal
 
 pub returns-then-width-t : goal.returns-then-width-t

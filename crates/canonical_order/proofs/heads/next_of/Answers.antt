@@ -1,11 +1,7 @@
 -- `canonical_order::heads::next_of` meets its contract. Assumes nothing.
-use mathlib.Core.Path.{◌≡◌, refl, sym, ◌∙◌}
-use Prim.Native.Nat.{◌-◌, ◌≤◌}
+use mathlib.Core.Path.{refl, sym, ◌∙◌}
 use native.Mathlib.Omega.{arith}
-use lib.ListN.{length, drop}
-use borrow.Author.Rules.{rules}
 use Rattle.canonical_order.specs.Section.{no_head}
-use Rattle.canonical_order.specs.Keyed.{pick_by}
 use Rattle.canonical_order.proofs.Keyed.{pick_more, pick-over}
 use Rattle.canonical_order.proofs.heads.next_of.Goals as goal
 

@@ -1,12 +1,9 @@
 -- `canonical_order::heads::next_of` meets its contract. Assumes nothing.
-use mathlib.Core.Path.{◌≡◌, refl, sym, ◌∙◌}
+use mathlib.Core.Path.{◌≡◌}
 use Prim.Native.Nat.{◌-◌, ◌≤◌}
-use native.Mathlib.Omega.{arith}
 use lib.ListN.{length, drop}
-use borrow.Author.Rules.{rules}
 use Rattle.canonical_order.specs.Section.{no_head}
 use Rattle.canonical_order.specs.Keyed.{pick_by}
-use Rattle.canonical_order.proofs.Keyed.{pick_more, pick-over}
 use Rattle.canonical_order.proofs.heads.next_of.Given as goal
 
 abbrev pub invariant-loop-i : goal.invariant-loop-i

@@ -1,9 +1,8 @@
 -- `canonical_order::heads::scan_all` meets its contract. Assumes nothing.
-use mathlib.Core.Path.{sym, ◌∙◌}
-use Prim.Native.Nat.{◌+◌, ◌-◌, ◌≤◌, ◌<◌}
+use mathlib.Core.Path.{◌∙◌}
+use Prim.Native.Nat.{◌+◌, ◌≤◌, ◌<◌}
 use native.Mathlib.Omega.{arith}
-use lib.ListN.{length, length-set}
-use borrow.Author.Rules.{rules}
+use lib.ListN.{length-set}
 use Rattle.canonical_order.proofs.Picks as picks
 use Rattle.canonical_order.proofs.Keyed as keyed
 use Rattle.canonical_order.proofs.heads.scan_all.Goals as goal
@@ -25,12 +24,12 @@ slice_bounds-scan-start c = omega (arith, c.loop-at.invariant.fits)
 pub slice_bounds-scan-end : goal.slice_bounds-scan-end
 slice_bounds-scan-end c = omega (arith, c.loop-at.invariant.fits)
 
-stepped : (c : goal.After-scan-t)
+stepped : (c : After-scan-t)
     → picks.Stepped c.args.s.now c.loop-at.at c.scan-t.result
 stepped c = picks.stepped _ _ _ c.loop-at-test.true c.loop-at.invariant.begins c.scan-t.ensures
 
 -- what omega needs of the places
-bounds : (c : goal.After-scan-t)
+bounds : (c : After-scan-t)
     → (c.loop-at.i + c.loop-at.i < 256) × (c.loop-at.at + 1 + c.scan-t.result.len ≤ 256)
 bounds c =
     let l = c.loop-at.invariant in

@@ -1,10 +1,6 @@
 -- `canonical_order::heads::scan_all` meets its contract. Assumes nothing.
-use mathlib.Core.Path.{sym, ◌∙◌}
-use Prim.Native.Nat.{◌+◌, ◌-◌, ◌≤◌, ◌<◌}
-use native.Mathlib.Omega.{arith}
-use lib.ListN.{length, length-set}
-use borrow.Author.Rules.{rules}
-use Rattle.canonical_order.proofs.Picks as picks
+use Prim.Native.Nat.{◌-◌}
+use lib.ListN.{length}
 use Rattle.canonical_order.proofs.Keyed as keyed
 use Rattle.canonical_order.proofs.heads.scan_all.Given as goal
 

@@ -1,11 +1,6 @@
 -- `canonical_order::section::group_end` meets its contract. Assumes nothing.
-use borrow.Author.Rules.{rules}
 use native.Mathlib.Omega.{arith}
-use mathlib.Core.Path.{◌≡◌, refl, sym, ◌∙◌}
-use Prim.Native.Nat.{◌-◌, ◌≤◌}
-use lib.ListN.{length, drop}
-use Rattle.subtag.specs.Sections.{tags_of, Led}
-use Rattle.canonical_order.specs.Section.{end_from}
+use mathlib.Core.Path.{refl, sym, ◌∙◌}
 use Rattle.canonical_order.proofs.Picks as picks
 use Rattle.canonical_order.proofs.section.group_end.Goals as goal
 use Rattle.canonical_order.proofs.section.group_end.Goals.{After-scan-t}
@@ -13,7 +8,7 @@ use Rattle.canonical_order.proofs.section.group_end.Goals.{After-scan-t}
 pub loop-at-init : goal.loop-at-init
 loop-at-init c = (c.requires.0, c.requires.1, refl)
 
-stepped : (c : goal.After-scan-t)
+stepped : (c : After-scan-t)
     → picks.Stepped c.args.s.now c.loop-at.at c.scan-t.result
 stepped c =
     picks.stepped _ _ _ c.loop-at-test.true c.loop-at.invariant.1 c.scan-t.ensures

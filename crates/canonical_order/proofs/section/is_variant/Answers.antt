@@ -5,8 +5,6 @@ use Rattle.standard.specs.Grammar.{variant_kind}
 use Rattle.subtag.specs.declared.Kind.{Kind}
 use Rattle.subtag.specs.declared.Subtag.{Subtag}
 use Rattle.subtag.specs.Kinds.{kind_is, kind_from}
-use borrow.Author.Rules.{rules}
-use native.Mathlib.Omega.{arith}
 use Rattle.canonical_order.proofs.section.is_variant.Goals as goal
 
 abbrev answer : Kind → Bool

@@ -2,8 +2,6 @@
 use mathlib.Core.Path.{sym, ap, ◌∙◌}
 use Rattle.canonical_order.specs.declared.section.What.{What}
 use Rattle.canonical_order.specs.Section.{test_of}
-use borrow.Author.Rules.{rules}
-use native.Mathlib.Omega.{arith}
 use Rattle.canonical_order.proofs.section.is_what.Goals as goal
 
 pub returns-in-Field : goal.returns-in-Field

@@ -1,8 +1,6 @@
 -- `canonical_order::sorted::trimmed_end` meets its contract. Assumes nothing.
-use borrow.Author.Rules.{rules}
 use native.Mathlib.Omega.{arith}
 use mathlib.Core.Path.{◌∙◌}
-use borrow.Author.Tests.{not-true, not-false}
 use Rattle.subtag.proofs.Walk as walk
 use Rattle.canonical_order.proofs.Trim as trim
 use Rattle.canonical_order.proofs.sorted.trimmed_end.Goals as goal

@@ -1,8 +1,6 @@
 -- `canonical_order::sorted::without` meets its contract. Assumes nothing.
-use borrow.Author.Rules.{rules}
 use borrow.Author.Tests.{eq-eqb, ne_eqb}
 use Rattle.canonical_order.specs.Section.{end_without}
-use native.Mathlib.Omega.{arith}
 use Rattle.canonical_order.proofs.sorted.without.Goals as goal
 
 pub returns-then-next-len : goal.returns-then-next-len

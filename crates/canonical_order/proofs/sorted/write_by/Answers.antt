@@ -2,14 +2,13 @@
 -- Assumes nothing.
 use native.Mathlib.Omega.{arith}
 use mathlib.Core.Path.{◌≡◌}
-use Prim.Native.Nat.{◌-◌, ◌<◌}
+use Prim.Native.Nat.{◌<◌}
 use lib.ListN.{length}
 use Rattle.subtag.specs.Sections.{tags_of}
 use Rattle.canonical_order.specs.Section.{no_head, pick_from}
 use Rattle.canonical_order.proofs.Keyed as keyed
 use Rattle.canonical_order.proofs.Trim as trim
 use Rattle.canonical_order.proofs.Writes as writes
-use borrow.Author.Rules.{rules}
 use Rattle.canonical_order.proofs.sorted.write_by.Goals as goal
 use Rattle.canonical_order.proofs.sorted.write_by.Goals.{After-next_of-h, After-trimmed_end-stop}
 
@@ -22,7 +21,7 @@ next_of-h-requires c =
     keyed.one_more_lem c.args.width (tags_of c.args.s.now) _ _ c.requires.4 c.requires.5
 
 -- the choice is that of the section
-picked : (c : goal.After-next_of-h)
+picked : (c : After-next_of-h)
     → c.next_of-h.result ≡ pick_from c.args.width c.loop-h.last 0
     (no_head (length c.args.s.now)) (tags_of c.args.s.now)
 picked c =
@@ -46,7 +45,7 @@ trimmed_end-stop-requires c =
     (g.within, g.fits, omega arith)
 
 -- the part that is written
-part : (c : goal.After-trimmed_end-stop)
+part : (c : After-trimmed_end-stop)
     → trim.Trimmed c.args.width c.args.trim
     c.args.s.now c.next_of-h.result.at
     c.next_of-h.result.next c.trimmed_end-stop.result
@@ -55,7 +54,7 @@ part c =
     writes.its-part _ _ _ _ _ c.requires.2 c.requires.3 _ _ _ _ (keyed.picked c.args.width _ _ (tags_of c.args.s.now) _ _ _ c.requires.4 c.requires.5 c.next_of-h.ensures) l.invariant c.if-n-from.false _
     c.group_end-end.ensures _ c.trimmed_end-stop.ensures
 
-found : (c : goal.After-trimmed_end-stop)
+found : (c : After-trimmed_end-stop)
     → (c.next_of-h.result.at < c.next_of-h.result.next) × (c.loop-h.last < c.next_of-h.result.key)
 found c =
     let l = c.loop-h in (

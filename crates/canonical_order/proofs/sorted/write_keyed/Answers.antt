@@ -3,7 +3,6 @@ use mathlib.Core.Path.{sym}
 use Prim.Native.Nat.{◌+◌}
 use native.Mathlib.Omega.{arith}
 use lib.Seq.{length-take-le}
-use borrow.Author.Rules.{rules}
 use Rattle.canonical_order.proofs.sorted.write_keyed.Goals as goal
 
 pub slice_bounds-write_by-end : goal.slice_bounds-write_by-end

@@ -1,10 +1,9 @@
 -- `canonical_order::sorted::write_scanned` meets its contract. The loop's invariant: what is pending, put at its place, gives the result.
 -- Assumes nothing.
 use native.Mathlib.Omega.{arith}
-use Prim.Native.Nat.{◌-◌, ◌<◌}
+use Prim.Native.Nat.{◌<◌}
 use Rattle.canonical_order.proofs.Trim as trim
 use Rattle.canonical_order.proofs.Writes as writes
-use borrow.Author.Rules.{rules}
 use Rattle.canonical_order.proofs.sorted.write_scanned.Goals as goal
 use Rattle.canonical_order.proofs.sorted.write_scanned.Goals.{After-trimmed_end-stop}
 
@@ -34,7 +33,7 @@ trimmed_end-stop-requires c =
     (g.within, g.fits, omega arith)
 
 -- the part that is written
-part : (c : goal.After-trimmed_end-stop)
+part : (c : After-trimmed_end-stop)
     → trim.Trimmed c.args.width c.args.trim
     c.args.s.now c.next_above-h.result.at
     c.next_above-h.result.next c.trimmed_end-stop.result
@@ -43,7 +42,7 @@ part c =
     writes.its-part _ _ _ _ _ c.requires.2 c.requires.3 _ _ _ _ c.next_above-h.ensures l.invariant c.if-s-from.false _
     c.group_end-end.ensures _ c.trimmed_end-stop.ensures
 
-found : (c : goal.After-trimmed_end-stop)
+found : (c : After-trimmed_end-stop)
     → (c.next_above-h.result.at < c.next_above-h.result.next) × (c.loop-h.last < c.next_above-h.result.key)
 found c =
     let l = c.loop-h in (

@@ -1,10 +1,7 @@
 -- `canonical_order::sorted::write_scanned` meets its contract. The loop's invariant: what is pending, put at its place, gives the result.
 -- Assumes nothing.
-use native.Mathlib.Omega.{arith}
-use Prim.Native.Nat.{◌-◌, ◌<◌}
-use Rattle.canonical_order.proofs.Trim as trim
+use Prim.Native.Nat.{◌-◌}
 use Rattle.canonical_order.proofs.Writes as writes
-use borrow.Author.Rules.{rules}
 use Rattle.canonical_order.proofs.sorted.write_scanned.Given as goal
 
 abbrev pub invariant-loop-h : goal.invariant-loop-h

@@ -7,7 +7,6 @@ use lib.Seq.{length-take-le}
 use Rattle.canonical.specs.declared.form.Form.{Form}
 use Rattle.operations.proofs.Canonicalised.{fits_by}
 use Rattle.operations.proofs.Delivers as delivers
-use borrow.Author.Rules.{rules}
 use Rattle.operations.proofs.canonicalise.canonicalise_tested.Goals as goal
 use Rattle.operations.proofs.canonicalise.canonicalise_tested.Goals.{In-Formed}
 
@@ -15,10 +14,10 @@ pub returns-in_default : goal.returns-in_default
 returns-in_default c =
     delivers.refused-stands c.args.aliases.now c.args.id.now _ _ c.canonical_form-c.result _ c.refused.result c.refused.ensures c.refusal_in.ensures c.canonical_form-c.ensures.0
 
-abbrev form : goal.In-Formed → Form
+abbrev form : In-Formed → Form
 form c = c.in-Formed.f
 
-fits : (c : goal.In-Formed) → (form c).len ≤ length c.canonical_form-c.new.out
+fits : (c : In-Formed) → (form c).len ≤ length c.canonical_form-c.new.out
 fits c =
     omega (arith, fits_by c.in-Formed.is c.canonical_form-c.ensures.1, c.buffer-form.ensures)
 

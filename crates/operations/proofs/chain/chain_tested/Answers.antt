@@ -4,7 +4,6 @@ use native.Mathlib.Omega.{arith}
 use Rattle.table.proofs.Hinting.{hinted-empty}
 use Rattle.operations.proofs.Canonicalised.{canonicalised, formed-by, fits_by}
 use Rattle.operations.proofs.ChainMakes.{chain-stands, form-bounds, chain-answer}
-use borrow.Author.Rules.{rules}
 use Rattle.operations.proofs.chain.chain_tested.Goals as goal
 
 pub canonical_form-c-requires : goal.canonical_form-c-requires

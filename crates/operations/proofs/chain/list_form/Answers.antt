@@ -5,7 +5,6 @@ use native.Mathlib.Omega.{arith}
 use lib.ListN.{length}
 use lib.Seq.{length-take-le}
 use Rattle.parents.proofs.Writing.{cut-le}
-use borrow.Author.Rules.{rules}
 use Rattle.operations.proofs.chain.list_form.Goals as goal
 
 pub slice_bounds-list-end : goal.slice_bounds-list-end

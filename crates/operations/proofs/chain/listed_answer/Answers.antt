@@ -1,9 +1,6 @@
 -- `operations::chain::listed_answer` meets its contract. Assumes nothing.
 use mathlib.Core.Path.{◌∙◌}
-use borrow.Author.Tests.{not-true, not-false}
 use Rattle.operations.proofs.ChainChecked.{listing-fits, listing-short}
-use borrow.Author.Rules.{rules}
-use native.Mathlib.Omega.{arith}
 use Rattle.operations.proofs.chain.listed_answer.Goals as goal
 
 pub returns-then-not-fits : goal.returns-then-not-fits

@@ -1,8 +1,6 @@
 -- `operations::complete::answer` meets its contract. Assumes nothing.
 use mathlib.Core.Path.{sym, ap, ◌∙◌}
 use Rattle.operations.specs.Completed.{answer_by}
-use borrow.Author.Rules.{rules}
-use native.Mathlib.Omega.{arith}
 use Rattle.operations.proofs.complete.answer.Goals as goal
 
 pub returns-in-Refused : goal.returns-in-Refused

@@ -2,7 +2,6 @@
 use native.Mathlib.Omega.{arith}
 use Rattle.operations.proofs.Canonicalised.{canonicalised, formed-by, fits_by, in_order}
 use Rattle.operations.proofs.CompleteForms.{refusal-stands, made-answer}
-use borrow.Author.Rules.{rules}
 use Rattle.operations.proofs.complete.form_hinted.Goals as goal
 
 pub returns-in_default : goal.returns-in_default

@@ -1,7 +1,6 @@
 -- `operations::complete::form_tested` meets its contract. Assumes nothing.
 use Rattle.table.proofs.Hinting.{hinted-empty}
 use borrow.Author.Rules.{rules}
-use native.Mathlib.Omega.{arith}
 use Rattle.operations.proofs.complete.form_tested.Goals as goal
 
 pub form_hinted-requires : goal.form_hinted-requires

@@ -3,7 +3,6 @@ use mathlib.Core.Path.{sym}
 use native.Mathlib.Omega.{arith}
 use lib.Seq.{length-take-le}
 use Rattle.operations.proofs.CompleteForms.{by-slices}
-use borrow.Author.Rules.{rules}
 use Rattle.operations.proofs.complete.from_form.Goals as goal
 
 pub slice_bounds-form_by_parts-end : goal.slice_bounds-form_by_parts-end

@@ -1,8 +1,6 @@
 -- `operations::complete::outcome_answer` meets its contract. Assumes nothing.
 use mathlib.Core.Path.{sym, ap, ◌∙◌}
 use Rattle.operations.specs.Completed.{outcome_answer}
-use borrow.Author.Rules.{rules}
-use native.Mathlib.Omega.{arith}
 use Rattle.operations.proofs.complete.outcome_answer.Goals as goal
 
 pub returns-in-Done : goal.returns-in-Done

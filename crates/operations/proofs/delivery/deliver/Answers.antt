@@ -1,7 +1,5 @@
 -- `operations::delivery::deliver` meets its contract. Assumes nothing.
 use Rattle.operations.proofs.Delivers as delivers
-use borrow.Author.Rules.{rules}
-use native.Mathlib.Omega.{arith}
 use Rattle.operations.proofs.delivery.deliver.Goals as goal
 
 pub returns-then-out-n : goal.returns-then-out-n

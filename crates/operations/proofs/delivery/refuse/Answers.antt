@@ -1,8 +1,6 @@
 -- `operations::delivery::refuse` meets its contract. Assumes nothing.
 use mathlib.Core.Path.{refl}
 use Rattle.operations.specs.Answer.{refused_answer}
-use borrow.Author.Rules.{rules}
-use native.Mathlib.Omega.{arith}
 use Rattle.operations.proofs.delivery.refuse.Goals as goal
 
 pub returns : goal.returns

@@ -1,7 +1,5 @@
 -- `operations::delivery::refused` meets its contract. Assumes nothing.
 use Rattle.operations.specs.Answer.{refused_of}
-use borrow.Author.Rules.{rules}
-use native.Mathlib.Omega.{arith}
 use Rattle.operations.proofs.delivery.refused.Goals as goal
 
 pub returns : goal.returns

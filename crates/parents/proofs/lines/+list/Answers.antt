@@ -1,6 +1,5 @@
 -- `parents::lines::list` meets its contract. Assumes nothing.
 use mathlib.Core.Path.{refl}
-use native.Mathlib.Omega.{arith}
 use Rattle.parents.proofs.Writing.{bounded-one, bounded-more, chain-none, chain-und, chain_more, chain-some, rest-lists, lists-more, lists-as}
 use Rattle.parents.proofs.lines.+list.Goals as goal
 

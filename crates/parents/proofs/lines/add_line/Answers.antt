@@ -1,7 +1,5 @@
 -- `parents::lines::add_line` meets its contract. Assumes nothing.
 use Rattle.parents.proofs.Writing.{more-fits, more-short}
-use borrow.Author.Rules.{rules}
-use native.Mathlib.Omega.{arith}
 use Rattle.parents.proofs.lines.add_line.Goals as goal
 
 pub put_line-requires : goal.put_line-requires

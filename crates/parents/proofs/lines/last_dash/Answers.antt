@@ -1,11 +1,8 @@
 -- `parents::lines::last_dash` meets its contract. Assumes nothing.
-use mathlib.Core.Path.{◌≡◌, refl, sym, ◌∙◌}
-use Prim.Native.Nat.{◌≤◌}
+use mathlib.Core.Path.{refl, sym, ◌∙◌}
 use native.Mathlib.Omega.{arith}
-use lib.ListN.{length}
-use Rattle.parents.specs.Texts.{last_below, last_dash}
+use Rattle.parents.specs.Texts.{last_dash}
 use Rattle.parents.proofs.Writing.{last-here, last-below, last_none}
-use borrow.Author.Rules.{rules}
 use Rattle.parents.proofs.lines.last_dash.Goals as goal
 
 pub loop-i-init : goal.loop-i-init

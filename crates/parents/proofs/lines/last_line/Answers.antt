@@ -1,7 +1,5 @@
 -- `parents::lines::last_line` meets its contract. Assumes nothing.
 use Rattle.parents.proofs.Writing.{one-short, one-fits}
-use borrow.Author.Rules.{rules}
-use native.Mathlib.Omega.{arith}
 use Rattle.parents.proofs.lines.last_line.Goals as goal
 
 pub returns-then-out-end : goal.returns-then-out-end

@@ -3,7 +3,6 @@ use mathlib.Core.Path.{sym}
 use native.Mathlib.Omega.{arith}
 use lib.Seq.{length-take-le}
 use Rattle.parents.proofs.Writing.{cut-le, root-le, by_row, by-cut, by-root}
-use borrow.Author.Rules.{rules}
 use Rattle.parents.proofs.lines.parent_of.Goals as goal
 
 pub returns-then-found : goal.returns-then-found

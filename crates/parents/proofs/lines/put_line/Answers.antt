@@ -1,7 +1,5 @@
 -- `parents::lines::put_line` meets its contract. Assumes nothing.
 use Rattle.parents.proofs.Writing.{put-end}
-use borrow.Author.Rules.{rules}
-use native.Mathlib.Omega.{arith}
 use Rattle.parents.proofs.lines.put_line.Goals as goal
 
 pub returns : goal.returns

@@ -1,7 +1,6 @@
 -- `parents::lines::row_of` meets its contract. Assumes nothing.
 use native.Mathlib.Omega.{arith}
 use Rattle.parents.proofs.Writing.{no_value, no_row, value_found, row-found}
-use borrow.Author.Rules.{rules}
 use Rattle.parents.proofs.lines.row_of.Goals as goal
 
 pub returns-then-variants-gt0 : goal.returns-then-variants-gt0

@@ -2,7 +2,6 @@
 use mathlib.Core.Path.{sym, ◌∙◌}
 use native.Mathlib.Omega.{arith}
 use Rattle.parents.proofs.Walks.{reach-root, reach-und, reach-next}
-use borrow.Author.Rules.{rules}
 use Rattle.parents.proofs.walk.key_reaches_root.Goals as goal
 
 pub returns-then-same : goal.returns-then-same

@@ -1,11 +1,8 @@
 -- `parents::walk::own_parent` meets its contract. Assumes nothing.
-use borrow.Author.Tests.{not-false}
 use mathlib.Core.Path.{subst}
 use mathlib.Core.Bool.{Bool}
 use Rattle.table.specs.Hints.{OpensIs}
 use Rattle.parents.proofs.OwnRows.{own_value}
-use borrow.Author.Rules.{rules}
-use native.Mathlib.Omega.{arith}
 use Rattle.parents.proofs.walk.own_parent.Goals as goal
 
 pub returns : goal.returns

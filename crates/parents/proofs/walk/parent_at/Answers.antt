@@ -1,7 +1,5 @@
 -- `parents::walk::parent_at` meets its contract. Assumes nothing.
 use Rattle.parents.proofs.Walks.{parent_row, parent_short}
-use borrow.Author.Rules.{rules}
-use native.Mathlib.Omega.{arith}
 use Rattle.parents.proofs.walk.parent_at.Goals as goal
 
 pub returns-then-f : goal.returns-then-f

@@ -1,11 +1,7 @@
 -- `parents::walk::reaches_root` meets its contract. The invariant: the walk from the text at hand, with the steps that are left,
 -- decides. Assumes nothing.
-use borrow.Author.Rules.{rules}
 use native.Mathlib.Omega.{arith}
-use mathlib.Core.Path.{◌≡◌, refl, sym, ◌∙◌}
-use Prim.Native.Nat.{◌≤◌}
-use lib.ListN.{length}
-use Rattle.parents.specs.Walk.{cut, ValueOk, reaches_from}
+use mathlib.Core.Path.{refl, sym, ◌∙◌}
 use Rattle.parents.proofs.Walks.{reach-root, reach-stop, reach-und, reach-next}
 use Rattle.parents.proofs.walk.reaches_root.Goals as goal
 

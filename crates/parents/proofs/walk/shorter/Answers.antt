@@ -1,7 +1,5 @@
 -- `parents::walk::shorter` meets its contract. Assumes nothing.
 use Rattle.parents.proofs.Walks.{shorter-region, shorter-script, shorter-root}
-use borrow.Author.Rules.{rules}
-use native.Mathlib.Omega.{arith}
 use Rattle.parents.proofs.walk.shorter.Goals as goal
 
 pub returns-then-e-n : goal.returns-then-e-n

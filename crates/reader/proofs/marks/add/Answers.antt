@@ -1,7 +1,6 @@
 -- `reader::marks::add` meets its contract. Assumes nothing.
 use native.Mathlib.Omega.{arith}
 use Rattle.reader.proofs.Places as places
-use borrow.Author.Rules.{rules}
 use Rattle.reader.proofs.marks.add.Goals as goal
 
 pub marked-requires : goal.marked-requires

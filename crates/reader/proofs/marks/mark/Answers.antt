@@ -5,7 +5,6 @@ use Prim.Native.Nat.{◌^◌}
 use native.Mathlib.Nat.{one-mul}
 use lib.Bits.{bit_or}
 use lib.Pow.{shl_exact}
-use borrow.Author.Rules.{rules}
 use Rattle.reader.proofs.marks.mark.Goals as goal
 
 pub returns : goal.returns

@@ -2,7 +2,6 @@
 use native.Mathlib.Omega.{arith}
 use Rattle.reader.specs.Marks.{place_as}
 use Rattle.reader.proofs.Places as places
-use borrow.Author.Rules.{rules}
 use Rattle.reader.proofs.marks.place.Goals as goal
 
 pub overflow_sub-result : goal.overflow_sub-result

@@ -1,8 +1,6 @@
 -- `reader::report::filled` meets its contract. Assumes nothing.
 use mathlib.Core.Path.{refl}
 use Rattle.reader.specs.Words.{report_is, parts_report}
-use borrow.Author.Rules.{rules}
-use native.Mathlib.Omega.{arith}
 use Rattle.reader.proofs.report.filled.Goals as goal
 
 pub returns : goal.returns

@@ -2,7 +2,6 @@
 use native.Mathlib.Omega.{arith}
 use mathlib.Core.List.{[]}
 use Rattle.reader.proofs.Reports as reports
-use borrow.Author.Rules.{rules}
 use Rattle.reader.proofs.report.later.Goals as goal
 
 pub slice_bounds-word_of-count : goal.slice_bounds-word_of-count

@@ -2,8 +2,6 @@
 use mathlib.Core.Path.{sym, ap, ◌∙◌}
 use Rattle.reader.specs.Parts.{outcome_of}
 use Rattle.reader.proofs.Reports as reports
-use borrow.Author.Rules.{rules}
-use native.Mathlib.Omega.{arith}
 use Rattle.reader.proofs.report.read.Goals as goal
 
 pub report_parts-requires : goal.report_parts-requires

@@ -1,8 +1,6 @@
 -- `reader::report::refusal` meets its contract. Assumes nothing.
 use Rattle.reader.specs.Words.{report_is}
 use Rattle.reader.proofs.Reports as reports
-use borrow.Author.Rules.{rules}
-use native.Mathlib.Omega.{arith}
 use Rattle.reader.proofs.report.refusal.Goals as goal
 
 pub returns : goal.returns

@@ -1,6 +1,4 @@
 -- `reader::report::refused` meets its contract. Assumes nothing.
-use borrow.Author.Rules.{rules}
-use native.Mathlib.Omega.{arith}
 use Rattle.reader.proofs.report.refused.Goals as goal
 
 pub returns : goal.returns

@@ -1,8 +1,6 @@
 -- `reader::report::report_parts` meets its contract. Assumes nothing.
 use mathlib.Core.Path.{◌∙◌}
 use Rattle.reader.proofs.Reports as reports
-use borrow.Author.Rules.{rules}
-use native.Mathlib.Omega.{arith}
 use Rattle.reader.proofs.report.report_parts.Goals as goal
 
 pub later-script-requires : goal.later-script-requires

@@ -2,7 +2,6 @@
 use mathlib.Core.Path.{refl}
 use native.Mathlib.Omega.{arith}
 use Rattle.reader.specs.Words.{word_is}
-use borrow.Author.Rules.{rules}
 use Rattle.reader.proofs.report.und.Goals as goal
 
 pub returns : goal.returns

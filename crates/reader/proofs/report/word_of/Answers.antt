@@ -1,9 +1,6 @@
 -- `reader::report::word_of` meets its contract. Assumes nothing.
-use borrow.Author.Rules.{rules}
-use native.Mathlib.Omega.{arith}
 use mathlib.Core.Path.{refl, sym, ◌∙◌}
 use Prim.Native.Nat.{◌-◌}
-use lib.ListN.{length}
 use Rattle.reader.proofs.Words as words
 use Rattle.reader.proofs.report.word_of.Goals as goal
 

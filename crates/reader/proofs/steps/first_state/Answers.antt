@@ -2,8 +2,6 @@
 use Rattle.subtag.specs.declared.Kind.TheVariants as kinds
 use Rattle.reader.proofs.Choices as choices
 use Rattle.reader.specs.Steps.{script_first}
-use borrow.Author.Rules.{rules}
-use native.Mathlib.Omega.{arith}
 use Rattle.reader.proofs.steps.first_state.Goals as goal
 
 pub returns-then-is_language : goal.returns-then-is_language

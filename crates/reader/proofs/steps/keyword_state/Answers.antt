@@ -1,8 +1,6 @@
 -- `reader::steps::keyword_state` meets its contract. Assumes nothing.
 use mathlib.Core.Bool.{true, false}
 use Rattle.reader.proofs.Choices as choices
-use borrow.Author.Rules.{rules}
-use native.Mathlib.Omega.{arith}
 use Rattle.reader.proofs.steps.keyword_state.Goals as goal
 
 pub returns-then-t-ne2 : goal.returns-then-t-ne2

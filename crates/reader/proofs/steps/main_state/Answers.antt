@@ -1,8 +1,6 @@
 -- `reader::steps::main_state` meets its contract. Assumes nothing.
 use Rattle.reader.specs.declared.steps.State.TheVariants.{Main}
 use Rattle.reader.proofs.Choices as choices
-use borrow.Author.Rules.{rules}
-use native.Mathlib.Omega.{arith}
 use Rattle.reader.proofs.steps.main_state.Goals as goal
 
 pub returns-then-accepts : goal.returns-then-accepts

@@ -1,7 +1,5 @@
 -- `reader::steps::opens` meets its contract. Assumes nothing.
 use Rattle.reader.proofs.Choices as choices
-use borrow.Author.Rules.{rules}
-use native.Mathlib.Omega.{arith}
 use Rattle.reader.proofs.steps.opens.Goals as goal
 
 pub returns-then-first-eq117 : goal.returns-then-first-eq117

@@ -2,8 +2,6 @@
 use mathlib.Core.Path.{refl}
 use Rattle.reader.specs.Steps.{other_from}
 use Rattle.reader.proofs.Choices as choices
-use borrow.Author.Rules.{rules}
-use native.Mathlib.Omega.{arith}
 use Rattle.reader.proofs.steps.other_state.Goals as goal
 
 pub returns-in-First : goal.returns-in-First

@@ -1,8 +1,6 @@
 -- `reader::steps::part_state` meets its contract. Assumes nothing.
 use Rattle.reader.specs.declared.steps.State.TheVariants.{Part}
 use Rattle.reader.proofs.Choices as choices
-use borrow.Author.Rules.{rules}
-use native.Mathlib.Omega.{arith}
 use Rattle.reader.proofs.steps.part_state.Goals as goal
 
 pub returns-then-is_field_key : goal.returns-then-is_field_key

@@ -1,6 +1,4 @@
 -- `reader::steps::singleton_state` meets its contract. Assumes nothing.
-use borrow.Author.Rules.{rules}
-use native.Mathlib.Omega.{arith}
 use Rattle.reader.proofs.steps.singleton_state.Goals as goal
 
 pub returns-in-First : goal.returns-in-First

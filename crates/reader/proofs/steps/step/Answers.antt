@@ -1,7 +1,5 @@
 -- `reader::steps::step` meets its contract. Assumes nothing.
 use Rattle.reader.proofs.Choices as choices
-use borrow.Author.Rules.{rules}
-use native.Mathlib.Omega.{arith}
 use Rattle.reader.proofs.steps.step.Goals as goal
 
 pub returns-then-t-eq1 : goal.returns-then-t-eq1

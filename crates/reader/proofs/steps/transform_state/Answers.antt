@@ -1,8 +1,6 @@
 -- `reader::steps::transform_state` meets its contract. Assumes nothing.
 use mathlib.Core.Bool.{true, false}
 use Rattle.reader.proofs.Choices as choices
-use borrow.Author.Rules.{rules}
-use native.Mathlib.Omega.{arith}
 use Rattle.reader.proofs.steps.transform_state.Goals as goal
 
 pub returns-then-is_field_key : goal.returns-then-is_field_key

@@ -1,7 +1,5 @@
 -- `reader::steps::value_state` meets its contract. Assumes nothing.
 use Rattle.reader.proofs.Choices as choices
-use borrow.Author.Rules.{rules}
-use native.Mathlib.Omega.{arith}
 use Rattle.reader.proofs.steps.value_state.Goals as goal
 
 pub returns-then-is_field_key : goal.returns-then-is_field_key

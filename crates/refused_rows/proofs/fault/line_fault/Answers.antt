@@ -1,8 +1,7 @@
 -- `refused_rows::fault::line_fault` meets its contract. Assumes nothing.
-use Rattle.std.proofs.Common.{sym, ap, ◌∙◌, arith, length-take-le, rules}
+use Rattle.std.proofs.Common.{sym, ap, ◌∙◌, arith, length-take-le}
 use Rattle.refused_rows.specs.Faults.{wrong_is, member_is, fault_is}
 use Rattle.refused_rows.proofs.Faults as laws
-use borrow.Author.Rules.{rules}
 use native.Mathlib.Omega.{arith}
 use Rattle.refused_rows.proofs.fault.line_fault.Goals as goal
 

@@ -1,8 +1,6 @@
 -- `refused_rows::member::has_leading_zero` meets its contract. Assumes nothing.
-use Rattle.std.proofs.Common.{sym, rules}
+use Rattle.std.proofs.Common.{sym}
 use Rattle.refused_rows.proofs.Members as laws
-use borrow.Author.Rules.{rules}
-use native.Mathlib.Omega.{arith}
 use Rattle.refused_rows.proofs.member.has_leading_zero.Goals as goal
 
 pub returns-then-x-lt2 : goal.returns-then-x-lt2

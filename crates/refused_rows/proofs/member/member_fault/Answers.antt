@@ -1,10 +1,7 @@
 -- `refused_rows::member::member_fault` meets its contract. Assumes nothing.
-use Rattle.std.proofs.Common.{sym, ◌∙◌, rules}
-use borrow.Author.Tests.{not-true, not-false}
+use Rattle.std.proofs.Common.{sym, ◌∙◌}
 use Rattle.refused_rows.specs.Faults.{wrong_is, member_is}
 use Rattle.refused_rows.proofs.Members as laws
-use borrow.Author.Rules.{rules}
-use native.Mathlib.Omega.{arith}
 use Rattle.refused_rows.proofs.member.member_fault.Goals as goal
 
 pub returns-then-x-eq0 : goal.returns-then-x-eq0

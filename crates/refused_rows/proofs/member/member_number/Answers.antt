@@ -1,8 +1,6 @@
 -- `refused_rows::member::member_number` meets its contract. Assumes nothing.
-use Rattle.std.proofs.Common.{◌∙◌, rules}
+use Rattle.std.proofs.Common.{◌∙◌}
 use Rattle.refused_rows.proofs.Members as laws
-use borrow.Author.Rules.{rules}
-use native.Mathlib.Omega.{arith}
 use Rattle.refused_rows.proofs.member.member_number.Goals as goal
 
 pub returns-then-x-eq1 : goal.returns-then-x-eq1

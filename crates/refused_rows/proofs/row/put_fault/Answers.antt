@@ -1,9 +1,7 @@
 -- `refused_rows::row::put_fault` meets its contract. Assumes nothing.
-use Rattle.std.proofs.Common.{ap, rules}
+use Rattle.std.proofs.Common.{ap}
 use Rattle.refused_rows.specs.Faults.{fault_is}
 use Rattle.refused_rows.proofs.Rows as laws
-use borrow.Author.Rules.{rules}
-use native.Mathlib.Omega.{arith}
 use Rattle.refused_rows.proofs.row.put_fault.Goals as goal
 
 pub returns-in-Nothing : goal.returns-in-Nothing

@@ -1,9 +1,7 @@
 -- `refused_rows::row::put_head` meets its contract. Assumes nothing.
-use Rattle.std.proofs.Common.{sym, length-take-le, rules}
+use Rattle.std.proofs.Common.{sym, length-take-le}
 use Rattle.byte_string.proofs.Ends.{end-le}
 use Rattle.refused_rows.proofs.Rows as laws
-use borrow.Author.Rules.{rules}
-use native.Mathlib.Omega.{arith}
 use Rattle.refused_rows.proofs.row.put_head.Goals as goal
 
 pub slice_bounds-put_shown-end : goal.slice_bounds-put_shown-end

@@ -1,12 +1,11 @@
 -- `refused_rows::row::put_identifier` meets its contract. Assumes nothing.
-use Rattle.std.proofs.Common.{◌≤◌, length, arith, rules}
+use Rattle.std.proofs.Common.{◌≤◌, length, arith}
 use Rattle.refused_rows.proofs.Rows as laws
-use borrow.Author.Rules.{rules}
 use native.Mathlib.Omega.{arith}
 use Rattle.refused_rows.proofs.row.put_identifier.Goals as goal
 use Rattle.refused_rows.proofs.row.put_identifier.Goals.{After-next_line-start}
 
-within : (c : goal.After-next_line-start) → c.next_line-start.result ≤ length c.args.line.now
+within : (c : After-next_line-start) → c.next_line-start.result ≤ length c.args.line.now
 within c = laws.start-within _ _ (rw c.end_of.ensures at c.next_line-start.ensures)
 
 pub slice_bounds-put_shown-count : goal.slice_bounds-put_shown-count

@@ -1,9 +1,8 @@
 -- `refused_rows::row::put_identifier_row` meets its contract. Assumes nothing.
-use Rattle.std.proofs.Common.{arith, rules}
+use Rattle.std.proofs.Common.{arith}
 use Rattle.bill_rules.specs.Refusals.{of_identifier}
 use Rattle.refused_rows.specs.Rows.{number_text, place_of, words_of}
 use Rattle.refused_rows.proofs.Rows as laws
-use borrow.Author.Rules.{rules}
 use native.Mathlib.Omega.{arith}
 use Rattle.refused_rows.proofs.row.put_identifier_row.Goals as goal
 

@@ -1,12 +1,11 @@
 -- `refused_rows::row::put_member_row` meets its contract. Assumes nothing.
-use Rattle.std.proofs.Common.{arith, rules}
+use Rattle.std.proofs.Common.{arith}
 use Rattle.standard.specs.Tag.{text}
 use Rattle.tsv.proofs.Laws.{field-length}
 use Rattle.bill_rules.specs.Refusals.{of_member}
 use Rattle.refused_rows.specs.Faults.{wrong_is}
 use Rattle.refused_rows.specs.Rows.{number_text, place_of, words_of}
 use Rattle.refused_rows.proofs.Rows as laws
-use borrow.Author.Rules.{rules}
 use native.Mathlib.Omega.{arith}
 use Rattle.refused_rows.proofs.row.put_member_row.Goals as goal
 

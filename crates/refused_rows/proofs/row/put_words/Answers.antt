@@ -1,11 +1,10 @@
 -- `refused_rows::row::put_words` meets its contract. Assumes nothing.
-use Rattle.std.proofs.Common.{ℕ, List, ap, arith, rules}
+use Rattle.std.proofs.Common.{ℕ, List, ap, arith}
 use Rattle.standard.specs.Tag.{text}
 use Rattle.refused_rows.specs.declared.member.MemberFault.{MemberFault}
 use Rattle.refused_rows.specs.Faults.{wrong_is}
 use Rattle.refused_rows.specs.Rows.{member_words}
 use Rattle.refused_rows.proofs.Rows as laws
-use borrow.Author.Rules.{rules}
 use native.Mathlib.Omega.{arith}
 use Rattle.refused_rows.proofs.row.put_words.Goals as goal
 

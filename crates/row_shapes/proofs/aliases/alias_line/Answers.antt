@@ -6,7 +6,7 @@ use Rattle.row_shapes.proofs.Texts.{no-alias, alias-no-tab, alias-one-tab, alias
 use Rattle.row_shapes.proofs.aliases.alias_line.Goals as goal
 use Rattle.row_shapes.proofs.aliases.alias_line.Goals.{After-end_of-tab}
 
-bounds : (c : goal.After-end_of-tab) → Ends 9 c.args.line.now (c.name_of-n.result.end + 1) c.end_of-tab.result
+bounds : (c : After-end_of-tab) → Ends 9 c.args.line.now (c.name_of-n.result.end + 1) c.end_of-tab.result
 bounds c = ends _ _ _ _ c.end_of-tab.ensures (omega arith)
 
 pub returns-then-line-a : goal.returns-then-line-a

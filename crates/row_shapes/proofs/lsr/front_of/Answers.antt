@@ -6,13 +6,13 @@ use Rattle.row_shapes.proofs.Fronts.{language-room, script-room, region-room, fr
 use Rattle.row_shapes.proofs.lsr.front_of.Goals as goal
 use Rattle.row_shapes.proofs.lsr.front_of.Goals.{After-language_len-l, After-region_len, After-script_len}
 
-one : (c : goal.After-language_len-l) → c.language_len-l.result ≤ length c.args.s.now
+one : (c : After-language_len-l) → c.language_len-l.result ≤ length c.args.s.now
 one c = language-room _ _ c.language_len-l.ensures
 
-two : (c : goal.After-script_len) → c.language_len-l.result + c.script_len.result ≤ length c.args.s.now
+two : (c : After-script_len) → c.language_len-l.result + c.script_len.result ≤ length c.args.s.now
 two c = script-room c.args.s.now _ _ (language-room _ _ c.language_len-l.ensures) c.script_len.ensures
 
-three : (c : goal.After-region_len) → c.language_len-l.result + c.script_len.result + c.region_len.result ≤ length c.args.s.now
+three : (c : After-region_len) → c.language_len-l.result + c.script_len.result + c.region_len.result ≤ length c.args.s.now
 three c = region-room c.args.s.now (c.language_len-l.result + c.script_len.result) _ (script-room c.args.s.now _ _ (language-room _ _ c.language_len-l.ensures) c.script_len.ensures) c.region_len.ensures
 
 pub slice_bounds-script_len-count : goal.slice_bounds-script_len-count

@@ -24,10 +24,10 @@ pub slice_bounds-same-end : goal.slice_bounds-same-end
 slice_bounds-same-end c = sym (length-take-le _ _ (omega arith))
 
 -- script and region are there
-script : (c : goal.Else-s-b) → present (between c.args.s.now c.args.l c.args.e) ≡ true
+script : (c : Else-s-b) → present (between c.args.s.now c.args.l c.args.e) ≡ true
 script c = present-some _ (simp (length-take, length-drop) (omega arith))
 
-region : (c : goal.Else-s-b) → present (drop (c.args.e + 1) c.args.s.now) ≡ true
+region : (c : Else-s-b) → present (drop (c.args.e + 1) c.args.s.now) ≡ true
 region c = present-some _ (simp length-drop (omega arith))
 
 pub returns-then-same : goal.returns-then-same

@@ -8,7 +8,7 @@ use Rattle.row_shapes.proofs.Texts.{no-pair, pair-no-key, pair-no-tab, pair-no-v
 use Rattle.row_shapes.proofs.pairs.pair_of.Goals as goal
 use Rattle.row_shapes.proofs.pairs.pair_of.Goals.{Else-not-stands}
 
-room : (c : goal.Else-not-stands) → c.front_of-k.result.end < length c.args.s.now
+room : (c : Else-not-stands) → c.front_of-k.result.end < length c.args.s.now
 room c = inside c.args.s.now c.front_of-k.result.end 9 (omega arith) (eqb-true _ 9 (sym c.stands.ensures ∙ c.if-not-stands.false))
 
 pub returns-then-not-k : goal.returns-then-not-k

@@ -9,7 +9,7 @@ use Rattle.row_shapes.proofs.Texts.{no_line, parent-two, parent-key, parent_is, 
 use Rattle.row_shapes.proofs.pairs.parent_row.Goals as goal
 use Rattle.row_shapes.proofs.pairs.parent_row.Goals.{Else-not-t}
 
-pair : (c : goal.Else-not-t) → PairIn c.args.s.now c.pair_of-t.result
+pair : (c : Else-not-t) → PairIn c.args.s.now c.pair_of-t.result
 pair c = c.pair_of-t.ensures.yes (not-false _ c.if-not-t.false)
 
 pub returns-then-not-t : goal.returns-then-not-t

@@ -9,7 +9,7 @@ use Rattle.table.proofs.hints.fill_hints.Goals as goal
 use Rattle.table.proofs.hints.fill_hints.Goals.{In-loop-i}
 
 -- the place of the line's slot is one of the hints
-within : (c : goal.In-loop-i) → place_of (length c.loop-i.hints) c.loop-i.slot < length c.loop-i.hints
+within : (c : In-loop-i) → place_of (length c.loop-i.hints) c.loop-i.slot < length c.loop-i.hints
 within c = room-same _ c.loop-i.hints _ _ c.requires c.loop-i.invariant.0 c.loop-i.invariant.1 refl
 
 pub loop-i-init : goal.loop-i-init

@@ -15,15 +15,15 @@ pub returns-then-not-opens : goal.returns-then-not-opens
 returns-then-not-opens c = (rw c.nothing.ensures.0 (seen_none _ _ _ (rw c.if-not-opens.true at c.opens.ensures)), omega (arith, c.nothing.ensures.1))
 
 -- a line starts at p
-there : (c : goal.After-end_of-e) → OpensIs c.args.t.now c.args.p true
+there : (c : After-end_of-e) → OpensIs c.args.t.now c.args.p true
 there c = rw c.if-not-opens.false at c.opens.ensures
 
 -- the line's end lies at or after its start, and within the table
-bounds : (c : goal.After-end_of-e) → Ends 10 c.args.t.now c.args.p c.end_of-e.result
+bounds : (c : After-end_of-e) → Ends 10 c.args.t.now c.args.p c.end_of-e.result
 bounds c = ends _ _ _ _ c.end_of-e.ensures (omega (arith, (there c).yes refl))
 
 -- the row has room for the key and the tab
-room : (c : goal.Then-starts_row)
+room : (c : Then-starts_row)
     → c.args.p + length c.args.key.now + 1 ≤ c.end_of-e.result
 room c =
     let a = c.args in

@@ -10,7 +10,6 @@ use Rattle.row_shapes.specs.Rows.{kind_named}
 use Rattle.aliases.specs.Keys.{is_key}
 use Rattle.table_check.specs.Free.{own_tag}
 use Rattle.table_check.proofs.Frees.{AliasLine, alias-line}
-use borrow.Author.Rules.{rules}
 use Rattle.table_check.proofs.replaced.alias_free.Goals as goal
 use Rattle.table_check.proofs.replaced.alias_free.Goals.{After-end_of-y}
 
@@ -20,7 +19,7 @@ overflow_add-start c =
     omega (arith, h.first)
 
 -- the fields of the row
-fields : (c : goal.After-end_of-y) → AliasLine c.args.a.now c.args.line.now c.name_of-n.result.end c.end_of-y.result
+fields : (c : After-end_of-y) → AliasLine c.args.a.now c.args.line.now c.name_of-n.result.end c.end_of-y.result
 fields c = alias-line _ _ _ _ c.name_of-n.ensures.0 c.end_of-y.ensures c.requires.1
 
 pub overflow_add-from : goal.overflow_add-from
@@ -33,7 +32,7 @@ pub slice_bounds-own-start : goal.slice_bounds-own-start
 slice_bounds-own-start c = omega (arith, (fields (goal.at.slice_bounds-own-start c).After-end_of-y).second)
 
 -- the value, as the code lends it
-value : (c : goal.After-end_of-y)
+value : (c : After-end_of-y)
     → own_tag c.name_of-n.result.kind (take (length c.args.line.now - (c.end_of-y.result + 1)) (drop (c.end_of-y.result + 1) c.args.line.now))
     ≡ own_tag (kind_named (take c.name_of-n.result.end c.args.line.now)) (drop (c.end_of-y.result + 1) c.args.line.now)
 value c = ap₂ own_tag c.name_of-n.ensures.1 (all_from (c.end_of-y.result + 1) c.args.line.now)

@@ -5,8 +5,6 @@ use lib.Seq.{length-take-le}
 use Rattle.byte_string.proofs.Ends.{ends}
 use Rattle.table_check.specs.Free.{own_tag}
 use Rattle.table_check.proofs.Frees.{own_is, own-language}
-use borrow.Author.Rules.{rules}
-use native.Mathlib.Omega.{arith}
 use Rattle.table_check.proofs.replaced.own.Goals as goal
 
 pub slice_bounds-result-end : goal.slice_bounds-result-end

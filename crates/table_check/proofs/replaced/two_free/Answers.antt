@@ -9,11 +9,10 @@ use Rattle.byte_string.proofs.Stores.{all_from}
 use Rattle.table_check.specs.Free.{free_three}
 use Rattle.parents.specs.Walk.{ValueOk}
 use Rattle.table_check.proofs.Clashes.{TwoLine, two-line}
-use borrow.Author.Rules.{rules}
 use Rattle.table_check.proofs.replaced.two_free.Goals as goal
 use Rattle.table_check.proofs.replaced.two_free.Goals.{After-end_of-x}
 
-fields : (c : goal.After-end_of-x) → TwoLine c.args.line.now c.end_of-x.result
+fields : (c : After-end_of-x) → TwoLine c.args.line.now c.end_of-x.result
 fields c = two-line _ _ c.end_of-x.ensures c.requires.1
 
 pub overflow_add-start : goal.overflow_add-start

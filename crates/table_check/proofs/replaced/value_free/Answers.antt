@@ -5,7 +5,6 @@ use lib.Seq.{length-take-le}
 use Rattle.row_shapes.specs.declared.aliases.AliasKind.TheVariants.{Script, Region}
 use Rattle.aliases.specs.Keys.{is_key}
 use Rattle.table_check.proofs.Frees as frees
-use borrow.Author.Rules.{rules}
 use Rattle.table_check.proofs.replaced.value_free.Goals as goal
 
 pub slice_bounds-is_key-end : goal.slice_bounds-is_key-end

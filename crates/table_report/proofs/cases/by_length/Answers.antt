@@ -1,8 +1,6 @@
 -- `table_report::cases::by_length` meets its contract. Assumes nothing.
 use borrow.Author.Tests.{eq-eqb, ne_eqb}
 use Rattle.table_report.specs.Cases.{by_length}
-use borrow.Author.Rules.{rules}
-use native.Mathlib.Omega.{arith}
 use Rattle.table_report.proofs.cases.by_length.Goals as goal
 
 pub returns-then-n-eq2 : goal.returns-then-n-eq2

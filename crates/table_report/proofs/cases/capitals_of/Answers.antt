@@ -1,8 +1,6 @@
 -- `table_report::cases::capitals_of` meets its contract. Assumes nothing.
 use borrow.Author.Tests.{lt-ltb, le-ltb}
 use Rattle.table_report.specs.Cases.{capitals}
-use borrow.Author.Rules.{rules}
-use native.Mathlib.Omega.{arith}
 use Rattle.table_report.proofs.cases.capitals_of.Goals as goal
 
 pub returns-then-dash-tab : goal.returns-then-dash-tab

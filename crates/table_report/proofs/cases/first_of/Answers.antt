@@ -2,8 +2,6 @@
 use mathlib.Core.Path.{sym, ap, ◌∙◌}
 use Rattle.row_shapes.specs.declared.Table.{Table}
 use Rattle.table_report.specs.Cases.{first_in, first_of}
-use borrow.Author.Rules.{rules}
-use native.Mathlib.Omega.{arith}
 use Rattle.table_report.proofs.cases.first_of.Goals as goal
 
 pub returns-in-Aliases : goal.returns-in-Aliases

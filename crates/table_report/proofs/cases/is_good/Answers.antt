@@ -3,8 +3,6 @@ use mathlib.Core.Path.{sym, ap}
 use Rattle.standard.specs.Table.{is_none}
 use Rattle.row_shapes.specs.declared.Rows.{Rows}
 use Rattle.row_shapes.specs.Rows.{fault_is}
-use borrow.Author.Rules.{rules}
-use native.Mathlib.Omega.{arith}
 use Rattle.table_report.proofs.cases.is_good.Goals as goal
 
 pub returns-in-Good : goal.returns-in-Good

@@ -1,10 +1,8 @@
 -- `table_report::cases::next_count` meets its contract. Assumes nothing.
 use native.Mathlib.Omega.{arith}
-use mathlib.Core.Path.{◌≡◌}
 use Prim.Native.Nat.{◌-◌}
 use borrow.Author.Tests.{eq-eqb, ne_eqb}
 use Rattle.table_report.specs.Cases.{next_count}
-use borrow.Author.Rules.{rules}
 use Rattle.table_report.proofs.cases.next_count.Goals as goal
 
 pub returns-then-b-eq45 : goal.returns-then-b-eq45

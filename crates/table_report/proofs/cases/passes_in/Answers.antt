@@ -3,7 +3,6 @@ use native.Mathlib.Omega.{arith}
 use mathlib.Core.Path.{sym}
 use lib.Seq.{length-take-le}
 use Rattle.table_report.proofs.Recased as recasing
-use borrow.Author.Rules.{rules}
 use Rattle.table_report.proofs.cases.passes_in.Goals as goal
 
 pub bounds-buf-end : goal.bounds-buf-end

@@ -1,13 +1,10 @@
 -- `table_report::cases::put_recased` meets its contract. Assumes nothing.
 use native.Mathlib.Omega.{arith}
-use mathlib.Core.Path.{◌≡◌, refl, ap, ◌∙◌}
-use Prim.Native.Nat.{◌-◌, ◌≤◌}
-use lib.ListN.{length, drop, length-set}
-use lib.Seq.{sets}
+use mathlib.Core.Path.{refl, ap, ◌∙◌}
+use Prim.Native.Nat.{◌-◌}
+use lib.ListN.{length-set}
 use Rattle.subtag.specs.Bytes.{cased_byte}
-use Rattle.table_report.specs.Cases.{recased}
 use Rattle.table_report.proofs.Recased as recasing
-use borrow.Author.Rules.{rules}
 use Rattle.table_report.proofs.cases.put_recased.Goals as goal
 
 pub loop-i-init : goal.loop-i-init

@@ -1,13 +1,9 @@
 -- `table_report::cases::put_recased` meets its contract. Assumes nothing.
-use native.Mathlib.Omega.{arith}
-use mathlib.Core.Path.{◌≡◌, refl, ap, ◌∙◌}
+use mathlib.Core.Path.{◌≡◌}
 use Prim.Native.Nat.{◌-◌, ◌≤◌}
-use lib.ListN.{length, drop, length-set}
+use lib.ListN.{length, drop}
 use lib.Seq.{sets}
-use Rattle.subtag.specs.Bytes.{cased_byte}
 use Rattle.table_report.specs.Cases.{recased}
-use Rattle.table_report.proofs.Recased as recasing
-use borrow.Author.Rules.{rules}
 use Rattle.table_report.proofs.cases.put_recased.Given as goal
 
 abbrev pub invariant-loop-i : goal.invariant-loop-i

@@ -1,8 +1,6 @@
 -- `table_report::cases::wrong_case` meets its contract. Assumes nothing.
 use borrow.Author.Tests.{lt-ltb, le-ltb}
 use Rattle.table_report.specs.Cases.{wrong_case}
-use borrow.Author.Rules.{rules}
-use native.Mathlib.Omega.{arith}
 use Rattle.table_report.proofs.cases.wrong_case.Goals as goal
 
 pub returns-then-row-gt80 : goal.returns-then-row-gt80

@@ -4,7 +4,6 @@ use mathlib.Core.Path.{sym, ap, ◌∙◌}
 use Rattle.byte_string.proofs.Ends.{end-le}
 use Rattle.row_shapes.specs.declared.Table.{Table}
 use Rattle.row_shapes.specs.Rows.{key_end}
-use borrow.Author.Rules.{rules}
 use Rattle.table_report.proofs.order.key_end.Goals as goal
 
 pub returns-in-Aliases : goal.returns-in-Aliases

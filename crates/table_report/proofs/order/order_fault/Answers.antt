@@ -9,7 +9,6 @@ use Rattle.byte_string.proofs.Ends.{end-le}
 use Rattle.table_report.specs.declared.Wrong.TheVariants.{SameKey, Order}
 use Rattle.table_report.specs.Faults.{pick}
 use Rattle.table_report.proofs.Judged as judged
-use borrow.Author.Rules.{rules}
 use Rattle.table_report.proofs.order.order_fault.Goals as goal
 
 pub slice_bounds-same_key-end-2 : goal.slice_bounds-same_key-end-2

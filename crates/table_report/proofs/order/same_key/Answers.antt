@@ -1,9 +1,7 @@
 -- `table_report::order::same_key` meets its contract. Assumes nothing.
-use native.Mathlib.Omega.{arith}
 use mathlib.Core.Path.{sym}
 use lib.Seq.{length-take-le}
 use Rattle.table_report.specs.Faults.{key_of}
-use borrow.Author.Rules.{rules}
 use Rattle.table_report.proofs.order.same_key.Goals as goal
 
 pub slice_bounds-same-end : goal.slice_bounds-same-end

@@ -1,7 +1,5 @@
 -- `table_report::order::second_tab` meets its contract. Assumes nothing.
 use Rattle.table_report.proofs.Counts as counts
-use borrow.Author.Rules.{rules}
-use native.Mathlib.Omega.{arith}
 use Rattle.table_report.proofs.order.second_tab.Goals as goal
 
 pub returns-then-line-a : goal.returns-then-line-a

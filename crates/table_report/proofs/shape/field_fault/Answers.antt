@@ -1,7 +1,5 @@
 -- `table_report::shape::field_fault` meets its contract. Assumes nothing.
 use Rattle.table_report.specs.Faults.{field_fault}
-use borrow.Author.Rules.{rules}
-use native.Mathlib.Omega.{arith}
 use Rattle.table_report.proofs.shape.field_fault.Goals as goal
 
 pub returns-then-not-all_fit : goal.returns-then-not-all_fit

@@ -1,8 +1,6 @@
 -- `table_report::shape::row_fault` meets its contract. Assumes nothing.
 use mathlib.Core.Path.{◌∙◌}
 use Rattle.table_report.proofs.Judged as judged
-use borrow.Author.Rules.{rules}
-use native.Mathlib.Omega.{arith}
 use Rattle.table_report.proofs.shape.row_fault.Goals as goal
 
 pub returns-then-row-eq0 : goal.returns-then-row-eq0

@@ -3,7 +3,6 @@ use native.Mathlib.Omega.{arith}
 use mathlib.Core.Path.{sym, ◌∙◌}
 use lib.Seq.{length-take-le}
 use Rattle.table_report.proofs.Judged as judged
-use borrow.Author.Rules.{rules}
 use Rattle.table_report.proofs.shape.shape_fault.Goals as goal
 
 pub returns-then-rest-end : goal.returns-then-rest-end

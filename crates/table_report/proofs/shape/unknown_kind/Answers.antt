@@ -1,12 +1,7 @@
 -- `table_report::shape::unknown_kind` meets its contract. Assumes nothing.
 use mathlib.Core.Path.{sym, ap, ◌∙◌}
-use lib.ListN.{take}
 use Rattle.row_shapes.specs.declared.Table.{Table}
-use Rattle.row_shapes.specs.declared.aliases.AliasKind.{AliasKind}
-use Rattle.row_shapes.specs.Rows.{kind_named}
 use Rattle.table_report.specs.Faults.{is_unknown, unknown_kind}
-use borrow.Author.Rules.{rules}
-use native.Mathlib.Omega.{arith}
 use Rattle.table_report.proofs.shape.unknown_kind.Goals as goal
 
 pub returns-in-Aliases : goal.returns-in-Aliases

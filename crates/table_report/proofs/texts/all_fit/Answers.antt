@@ -1,13 +1,7 @@
 -- `table_report::texts::all_fit` meets its contract. Assumes nothing.
-use native.Mathlib.Omega.{arith}
-use mathlib.Core.Path.{◌≡◌, refl, sym, ◌∙◌}
+use mathlib.Core.Path.{refl, sym, ◌∙◌}
 use Prim.Native.Nat.{◌-◌}
-use lib.ListN.{length, drop}
-use borrow.Author.Tests.{not-true, not-false}
-use Rattle.standard.specs.Grammar.{every}
 use Rattle.row_shapes.proofs.Tags.{every-end, every-not, every-next}
-use Rattle.table_report.specs.Faults.{fits}
-use borrow.Author.Rules.{rules}
 use Rattle.table_report.proofs.texts.all_fit.Goals as goal
 
 pub loop-i-init : goal.loop-i-init

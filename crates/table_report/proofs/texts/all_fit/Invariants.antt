@@ -1,13 +1,9 @@
 -- `table_report::texts::all_fit` meets its contract. Assumes nothing.
-use native.Mathlib.Omega.{arith}
-use mathlib.Core.Path.{◌≡◌, refl, sym, ◌∙◌}
+use mathlib.Core.Path.{◌≡◌}
 use Prim.Native.Nat.{◌-◌}
 use lib.ListN.{length, drop}
-use borrow.Author.Tests.{not-true, not-false}
 use Rattle.standard.specs.Grammar.{every}
-use Rattle.row_shapes.proofs.Tags.{every-end, every-not, every-next}
 use Rattle.table_report.specs.Faults.{fits}
-use borrow.Author.Rules.{rules}
 use Rattle.table_report.proofs.texts.all_fit.Given as goal
 
 abbrev pub invariant-loop-i : goal.invariant-loop-i

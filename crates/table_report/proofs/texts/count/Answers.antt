@@ -1,11 +1,7 @@
 -- `table_report::texts::count` meets its contract. Assumes nothing.
 use native.Mathlib.Omega.{arith}
-use mathlib.Core.Path.{◌≡◌, refl}
-use Prim.Native.Nat.{◌+◌, ◌-◌, ◌≤◌}
-use lib.ListN.{length, drop}
-use Rattle.table_report.specs.Faults.{count_of}
+use Prim.Native.Nat.{◌-◌}
 use Rattle.table_report.proofs.Counts as counts
-use borrow.Author.Rules.{rules}
 use Rattle.table_report.proofs.texts.count.Goals as goal
 
 pub loop-i-init : goal.loop-i-init

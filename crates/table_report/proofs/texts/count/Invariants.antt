@@ -1,11 +1,8 @@
 -- `table_report::texts::count` meets its contract. Assumes nothing.
-use native.Mathlib.Omega.{arith}
-use mathlib.Core.Path.{◌≡◌, refl}
+use mathlib.Core.Path.{◌≡◌}
 use Prim.Native.Nat.{◌+◌, ◌-◌, ◌≤◌}
 use lib.ListN.{length, drop}
 use Rattle.table_report.specs.Faults.{count_of}
-use Rattle.table_report.proofs.Counts as counts
-use borrow.Author.Rules.{rules}
 use Rattle.table_report.proofs.texts.count.Given as goal
 
 abbrev pub invariant-loop-i : goal.invariant-loop-i

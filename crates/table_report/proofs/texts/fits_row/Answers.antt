@@ -2,8 +2,6 @@
 use mathlib.Core.Path.{sym, ◌∙◌}
 use borrow.Author.Tests.{eq-eqb, ne_eqb}
 use Rattle.table_report.specs.Faults.{fits}
-use borrow.Author.Rules.{rules}
-use native.Mathlib.Omega.{arith}
 use Rattle.table_report.proofs.texts.fits_row.Goals as goal
 
 pub returns-then-is_small : goal.returns-then-is_small

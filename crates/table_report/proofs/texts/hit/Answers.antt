@@ -3,7 +3,6 @@ use native.Mathlib.Omega.{arith}
 use mathlib.Core.Path.{refl}
 use borrow.Author.Tests.{eq-eqb, ne_eqb}
 use Rattle.table_report.specs.Faults.{hit_of}
-use borrow.Author.Rules.{rules}
 use Rattle.table_report.proofs.texts.hit.Goals as goal
 
 pub returns-then-a-b : goal.returns-then-a-b

@@ -1,11 +1,7 @@
 -- `table_report::texts::line_start` meets its contract. Assumes nothing.
 use native.Mathlib.Omega.{arith}
-use mathlib.Core.Path.{◌≡◌, refl, sym, ◌∙◌}
-use Prim.Native.Nat.{◌≤◌}
-use lib.ListN.{length}
-use Rattle.table_report.specs.Faults.{line_start}
+use mathlib.Core.Path.{refl, sym, ◌∙◌}
 use Rattle.table_report.proofs.Counts as counts
-use borrow.Author.Rules.{rules}
 use Rattle.table_report.proofs.texts.line_start.Goals as goal
 
 pub loop-i-init : goal.loop-i-init

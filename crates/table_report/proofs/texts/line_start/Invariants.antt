@@ -1,11 +1,8 @@
 -- `table_report::texts::line_start` meets its contract. Assumes nothing.
-use native.Mathlib.Omega.{arith}
-use mathlib.Core.Path.{◌≡◌, refl, sym, ◌∙◌}
+use mathlib.Core.Path.{◌≡◌}
 use Prim.Native.Nat.{◌≤◌}
 use lib.ListN.{length}
 use Rattle.table_report.specs.Faults.{line_start}
-use Rattle.table_report.proofs.Counts as counts
-use borrow.Author.Rules.{rules}
 use Rattle.table_report.proofs.texts.line_start.Given as goal
 
 abbrev pub invariant-loop-i : goal.invariant-loop-i

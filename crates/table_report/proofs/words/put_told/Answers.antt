@@ -3,7 +3,6 @@ use native.Mathlib.Omega.{arith}
 use mathlib.Core.List.{[]}
 use Rattle.tsv.proofs.Laws.{field-length}
 use Rattle.table_report.proofs.Written as written
-use borrow.Author.Rules.{rules}
 use Rattle.table_report.proofs.words.put_told.Goals as goal
 
 pub put_wrong-requires : goal.put_wrong-requires

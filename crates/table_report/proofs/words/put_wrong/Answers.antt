@@ -3,7 +3,6 @@ use native.Mathlib.Omega.{arith}
 use Rattle.table_report.specs.declared.Wrong.TheVariants.{NoEnd, Empty, Return, NoTab, FewTabs, ManyTabs, Byte, Kind, Case, Field, SameKey, Order}
 use Rattle.table_report.specs.Words.{wrong_words}
 use Rattle.table_report.proofs.Written as written
-use borrow.Author.Rules.{rules}
 use Rattle.table_report.proofs.words.put_wrong.Goals as goal
 
 pub returns-in-NoEnd : goal.returns-in-NoEnd

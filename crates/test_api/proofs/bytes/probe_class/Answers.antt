@@ -1,8 +1,6 @@
 -- `test_api::bytes::probe_class` meets its contract. Assumes nothing.
 use mathlib.Core.Path.{ap, ◌∙◌}
 use Rattle.test_api.specs.Codes.{class_code}
-use borrow.Author.Rules.{rules}
-use native.Mathlib.Omega.{arith}
 use Rattle.test_api.proofs.bytes.probe_class.Goals as goal
 
 pub returns : goal.returns

@@ -1,10 +1,6 @@
 -- `test_api::reads::probe_read` meets its contract. Assumes nothing.
-use mathlib.Core.Path.{◌≡◌}
-use Prim.Native.Nat.{◌-◌, ◌≤◌}
+use Prim.Native.Nat.{◌-◌}
 use native.Mathlib.Omega.{arith}
-use borrow.Author.Rules.{rules}
-use Rattle.standard.specs.Report.{report}
-use Rattle.test_api.specs.Codes.{report_code}
 use Rattle.test_api.proofs.reads.probe_read.Goals as goal
 
 pub loop-k-init : goal.loop-k-init

@@ -3,8 +3,6 @@ use mathlib.Core.Path.{ap, ◌∙◌}
 use Prim.Native.Nat.{ℕ, ◌+◌, ◌*◌, ◌%◌}
 use Rattle.reader.specs.Words.{report_is}
 use Rattle.test_api.specs.Codes.{report_code}
-use borrow.Author.Rules.{rules}
-use native.Mathlib.Omega.{arith}
 use Rattle.test_api.proofs.reads.read_once.Goals as goal
 
 pub returns : goal.returns

@@ -1,8 +1,6 @@
 -- `test_api::repeats::check_for` meets its contract. Assumes nothing.
 use mathlib.Core.Path.{sym, ◌∙◌}
 use Rattle.test_api.proofs.Repeated.{check-0, check-1, check-2, check-3}
-use borrow.Author.Rules.{rules}
-use native.Mathlib.Omega.{arith}
 use Rattle.test_api.proofs.repeats.check_for.Goals as goal
 
 pub returns-then-operation-eq0 : goal.returns-then-operation-eq0

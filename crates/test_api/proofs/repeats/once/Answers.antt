@@ -3,8 +3,6 @@ use mathlib.Core.Path.{sym, ◌∙◌}
 use Rattle.operations.proofs.CompleteChecked.{tested-both}
 use Rattle.operations.proofs.ChainChecked.{tested-chain}
 use Rattle.test_api.proofs.Repeated.{check-0, check-1, check-2, check-3, once-0, once-1, once-2, once-3}
-use borrow.Author.Rules.{rules}
-use native.Mathlib.Omega.{arith}
 use Rattle.test_api.proofs.repeats.once.Goals as goal
 
 pub canonicalise_tested-requires : goal.canonicalise_tested-requires

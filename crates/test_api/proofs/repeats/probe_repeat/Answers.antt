@@ -2,8 +2,6 @@
 use Rattle.operations.proofs.Delivers.{table-good}
 use Rattle.table.proofs.Hinting.{hinted-empty}
 use Rattle.test_api.proofs.Repeated.{refused-for}
-use borrow.Author.Rules.{rules}
-use native.Mathlib.Omega.{arith}
 use Rattle.test_api.proofs.repeats.probe_repeat.Goals as goal
 
 pub returns-in-Bad : goal.returns-in-Bad

@@ -1,8 +1,6 @@
 -- `test_api::repeats::probe_repeat_hinted` meets its contract. Assumes nothing.
 use Rattle.operations.proofs.Delivers.{table-good}
 use Rattle.test_api.proofs.Repeated.{refused-for}
-use borrow.Author.Rules.{rules}
-use native.Mathlib.Omega.{arith}
 use Rattle.test_api.proofs.repeats.probe_repeat_hinted.Goals as goal
 
 pub returns-in-Bad : goal.returns-in-Bad

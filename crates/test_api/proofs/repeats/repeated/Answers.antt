@@ -1,10 +1,7 @@
 -- `test_api::repeats::repeated` meets its contract. Assumes nothing.
-use mathlib.Core.Path.{◌≡◌, refl, sym, ◌∙◌}
-use Prim.Native.Nat.{◌-◌, ◌≤◌}
+use mathlib.Core.Path.{refl, sym, ◌∙◌}
+use Prim.Native.Nat.{◌-◌}
 use native.Mathlib.Omega.{arith}
-use lib.ListN.{length}
-use borrow.Author.Rules.{rules}
-use Rattle.c_api.specs.Packed.{unpacked}
 use Rattle.test_api.specs.Exported.{made_for}
 use Rattle.test_api.proofs.Repeated.{again}
 use Rattle.test_api.proofs.repeats.repeated.Goals as goal

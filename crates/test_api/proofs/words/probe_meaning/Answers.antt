@@ -3,7 +3,6 @@ use native.Mathlib.Omega.{arith}
 use Rattle.tsv.proofs.Laws.{field-length}
 use Rattle.meaning.specs.Meaning.{meaning_of}
 use Rattle.test_api.proofs.Told as laws
-use borrow.Author.Rules.{rules}
 use Rattle.test_api.proofs.words.probe_meaning.Goals as goal
 
 pub returns-then-out-lt80 : goal.returns-then-out-lt80

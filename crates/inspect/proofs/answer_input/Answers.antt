@@ -1,0 +1,87 @@
+-- `inspect::answer_input` meets its contract: the rows of what was handed over so far are printed. Assumes nothing.
+use mathlib.Core.Path.{◌≡◌, refl, sym, ◌∙◌, subst}
+use mathlib.Core.List.{List, [], ◌∷◌, ◌++◌}
+use Prim.Native.Nat.{ℕ, ◌-◌}
+use native.Mathlib.Omega.{arith}
+use lib.ListN.{length, take}
+use lib.Seq.{length-take-le}
+use Rattle.table.specs.Lines.{lines}
+use Rattle.lines.specs.Squeeze.{Bytes}
+use Rattle.lines.specs.Pieces.{rows_text}
+use Rattle.lines.specs.Reader.{Placed}
+use Rattle.lines.proofs.Pieces.{rows_none, rows_append, rows-first}
+use Rattle.program_io.specs.Handed.{Going}
+use Rattle.program_io.specs.Printed.{PrintsLines, headed}
+use Rattle.program_io.proofs.Laws.{block_of, end_of, failure-of}
+use Rattle.program_io.proofs.Printing.{Printed, printed-header, headed-behind, headed-first, printed-more, handed-piece, answers-unread, answers-unwritten, answers-end}
+use Rattle.inspect_rows.specs.Rows.{line_row}
+use Rattle.inspect_rows.proofs.Bounds.{line_first}
+use Rattle.inspect.specs.Header.{header}
+use borrow.Author.Rules.{rules}
+use Rattle.inspect.proofs.answer_input.Goals as goal
+use Rattle.inspect.proofs.answer_input.Goals.{After-print_rows-output}
+
+pub loop-streams-init : goal.loop-streams-init
+loop-streams-init c =
+    let b = c.begin-input.ensures in
+    (refl, refl, refl, refl, record { behind = b.0.behind; few = b.0.few; within = omega (arith, b.0.within) }, ([], b.1 _, printed-header _ _ (rows_none _) _ c.requires.6))
+
+pub returns-then-has_failed : goal.returns-then-has_failed
+returns-then-has_failed c =
+    let n = c.next-input in
+    let l = c.loop-streams in
+    let h = n.ensures.2 l.invariant.5.0 l.invariant.5.1 in
+    record { number = refl; blocks = l.invariant.5.0; given = answers-unread _ l.invariant.5.0 l.output _ l.invariant.5.2 (h.broken (failure-of n.result.last (sym c.has_failed.ensures ∙ c.if-has_failed.true))) }
+
+pub slice_bounds-print_rows-end-in-loop-streams : goal.slice_bounds-print_rows-end-in-loop-streams
+slice_bounds-print_rows-end-in-loop-streams c = let h = sym (length-take-le c.whole-whole.result c.next-input.new.piece (search rules)) in search rules
+
+pub print_rows-output-requires : goal.print_rows-output-requires
+print_rows-output-requires c =
+    let l = c.loop-streams in
+    (c.requires.0, c.requires.1, c.requires.2, l.invariant.0 ∙ c.requires.3, (let k = l.invariant.3 in omega (arith, k, c.requires.5)), l.invariant.5.2.going)
+
+-- what was printed of the piece that was handed over
+piece-rows : (c : goal.After-print_rows-output)
+    → PrintsLines (rows_text (line_row c.args.keyed c.args.aliases.now c.args.likely.now)) (lines (take c.next-input.result.taken.whole c.next-input.new.piece)) c.loop-streams.output c.print_rows-output.result
+piece-rows c =
+    subst (λ (k : ℕ). PrintsLines (rows_text (line_row c.args.keyed c.args.aliases.now c.args.likely.now)) (lines (take k c.next-input.new.piece)) c.loop-streams.output c.print_rows-output.result)
+    c.whole-whole.ensures c.print_rows-output.ensures
+
+pub returns-then-has_failed-2 : goal.returns-then-has_failed-2
+returns-then-has_failed-2 c =
+    let n = c.next-input in
+    let l = c.loop-streams in
+    let bs = l.invariant.5.0 in
+    let h = n.ensures.2 bs l.invariant.5.1 in
+    let p = piece-rows (goal.at.returns-then-has_failed-2 c).After-print_rows-output in
+    let w = handed-piece bs _ n.result _ h (sym c.has_failed.ensures ∙ c.if-has_failed.false) in
+    record { number = refl; blocks = w.0; given = answers-unwritten _ bs _ l.output _ _ l.invariant.5.2 p (headed-behind _ _ _ _ (rows_append _ _)) w.0 _ w.1 w.2 (sym c.has_failed-in-loop-streams.ensures ∙ c.if-has_failed-2.true) }
+
+pub returns-then-is_ended : goal.returns-then-is_ended
+returns-then-is_ended c =
+    let n = c.next-input in
+    let l = c.loop-streams in
+    let bs = l.invariant.5.0 in
+    let h = n.ensures.2 bs l.invariant.5.1 in
+    let p = piece-rows (goal.at.returns-then-is_ended c).After-print_rows-output in
+    let e = end_of n.result.last (sym c.is_ended.ensures ∙ c.if-is_ended.true) in
+    record { number = refl; blocks = bs; given = answers-end _ bs _ l.output _ _ l.invariant.5.2 p (headed-behind _ _ _ _ (rows_append _ _)) (headed-first _ _ (rows-first _ (line_first _ _ _))) _ (h.last e) (h.ended e) (sym c.has_failed-in-loop-streams.ensures ∙ c.if-has_failed-2.false) }
+
+pub loop-streams-smaller : goal.loop-streams-smaller
+loop-streams-smaller c =
+    let n = c.next-input in
+    let k = n.ensures.1 in
+    let s = k.some (block_of n.result.last (sym c.has_failed.ensures ∙ c.if-has_failed.false) (sym c.is_ended.ensures ∙ c.if-is_ended.false)) in
+    omega (arith, k.bytes, k.most)
+
+pub loop-streams-preserved : goal.loop-streams-preserved
+loop-streams-preserved c =
+    let n = c.next-input in
+    let l = c.loop-streams in
+    let bs = l.invariant.5.0 in
+    let h = n.ensures.2 bs l.invariant.5.1 in
+    let p = piece-rows (goal.at.loop-streams-preserved c).After-print_rows-output in
+    let cs = bs ++ (take n.result.got n.new.block ∷ []) in
+    let e = block_of n.result.last (sym c.has_failed.ensures ∙ c.if-has_failed.false) (sym c.is_ended.ensures ∙ c.if-is_ended.false) in
+    (search rules, search rules, search rules, search rules, search rules, (cs, h.going e, printed-more _ bs _ l.output _ _ l.invariant.5.2 p (headed-behind _ _ _ _ (rows_append _ _)) cs (h.lines e) (sym c.has_failed-in-loop-streams.ensures ∙ c.if-has_failed-2.false)))
