@@ -2,20 +2,19 @@
 use mathlib.Core.Path.{◌≡◌, refl, sym, ap, ap₂, ◌∙◌}
 use mathlib.Core.Bool.{true, false}
 use mathlib.Core.List.{List, [], ◌∷◌, ◌++◌, map}
-use mathlib.Core.Logic.{◌⊎◌, inl, inr, ⊎_elim}
 use mathlib.Core.Option.{Option, none, some}
 use Prim.Native.Nat.{ℕ, ◌*◌, ◌≤◌}
 use native.Mathlib.Omega.{arith}
 use lib.ListN.{length, take, length-append}
 use lib.Seq.{sets}
 use Rattle.standard.specs.Tag.{Tag, replace, sort_by, itself}
-use Rattle.standard.specs.Grammar.{every, size4, size5to8, size_of, a_variant, kind, kind_of}
+use Rattle.standard.specs.Grammar.{every, a_variant, kind_of}
 use Rattle.standard.specs.Identifier.{Tables, canonical_variants}
 use Rattle.standard.specs.Reading.{optional, of_kind}
 use Rattle.standard.specs.Table.{variant_key, is_word, is_variant_tag, tables_of, check, to_canonicalise}
 use Rattle.standard.proofs.General.{and-true}
 use Rattle.standard.proofs.Bytes.{word, word_stands}
-use Rattle.standard.proofs.Shapes.{Word, kind-variant}
+use Rattle.standard.proofs.Shapes.{Word, variant-size as kind-size}
 use Rattle.standard.proofs.Sound.{of_kind-eq}
 use Rattle.standard.proofs.Table.{shaped-tables}
 use Rattle.subtag.specs.Subtags.{PlainTag}
@@ -42,27 +41,8 @@ variant_tag : (t : Tag) → is_variant_tag t ≡ true → Variant t
 unfolding is_variant_tag is_word word
 variant_tag t e = let h = and-true (of_kind a_variant (kind_of t)) (is_word t) e in record { kind = of_kind-eq a_variant (kind_of t) h.0; word = h.1 }
 
-several-size : (t : Tag) → (size_of t ≡ size4) ⊎ (size_of t ≡ size5to8) → (4 ≤ length t) × (length t ≤ 8)
-unfolding size_of
-several-size [] (inl e) = absurd (let z : ◌≡◌ {A = ℕ} 0 1 = cc in omega arith)
-several-size [] (inr e) = absurd (let z : ◌≡◌ {A = ℕ} 0 1 = cc in omega arith)
-several-size (a ∷ []) (inl e) = absurd (let z : ◌≡◌ {A = ℕ} 0 1 = cc in omega arith)
-several-size (a ∷ []) (inr e) = absurd (let z : ◌≡◌ {A = ℕ} 0 1 = cc in omega arith)
-several-size (a ∷ b ∷ []) (inl e) = absurd (let z : ◌≡◌ {A = ℕ} 0 1 = cc in omega arith)
-several-size (a ∷ b ∷ []) (inr e) = absurd (let z : ◌≡◌ {A = ℕ} 0 1 = cc in omega arith)
-several-size (a ∷ b ∷ c ∷ []) (inl e) = absurd (let z : ◌≡◌ {A = ℕ} 0 1 = cc in omega arith)
-several-size (a ∷ b ∷ c ∷ []) (inr e) = absurd (let z : ◌≡◌ {A = ℕ} 0 1 = cc in omega arith)
-several-size (a ∷ b ∷ c ∷ d ∷ []) e = (omega arith, omega arith)
-several-size (a ∷ b ∷ c ∷ d ∷ f ∷ []) e = (omega arith, omega arith)
-several-size (a ∷ b ∷ c ∷ d ∷ f ∷ g ∷ []) e = (omega arith, omega arith)
-several-size (a ∷ b ∷ c ∷ d ∷ f ∷ g ∷ h ∷ []) e = (omega arith, omega arith)
-several-size (a ∷ b ∷ c ∷ d ∷ f ∷ g ∷ h ∷ i ∷ []) e = (omega arith, omega arith)
-several-size (a ∷ b ∷ c ∷ d ∷ f ∷ g ∷ h ∷ i ∷ j ∷ t) (inl e) = absurd (let z : ◌≡◌ {A = ℕ} 0 1 = cc in omega arith)
-several-size (a ∷ b ∷ c ∷ d ∷ f ∷ g ∷ h ∷ i ∷ j ∷ t) (inr e) = absurd (let z : ◌≡◌ {A = ℕ} 0 1 = cc in omega arith)
-
 pub variant-size : (t : Tag) → Variant t → (4 ≤ length t) × (length t ≤ 8)
-unfolding kind_of
-variant-size t v = several-size t (⊎_elim (λ h. inl h.0) inr (kind-variant (size_of t) _ _ _ v.kind))
+variant-size t v = kind-size t v.kind
 
 pub low_word : (t : Tag) → Word t → Low t
 unfolding Low every
