@@ -1,5 +1,5 @@
 -- What a run of the program told. Assumes nothing.
-use Rattle.std.specs.Prelude.{◌≡◌, List, []}
+use Rattle.std.specs.Prelude.{◌≡◌, []}
 use Rattle.standard.specs.Delivery.{Bytes, given}
 use Rattle.operations.specs.declared.delivery.Answer.{Answer}
 use Rattle.operations.specs.Answer.{answer_of}

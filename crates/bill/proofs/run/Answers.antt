@@ -3,8 +3,6 @@ use mathlib.Core.Path.{ap}
 use lib.ListN.{length}
 use Rattle.program_io.proofs.Runs.{is-printed}
 use Rattle.bill.proofs.Laws.{makes-map}
-use borrow.Author.Rules.{rules}
-use native.Mathlib.Omega.{arith}
 use Rattle.bill.proofs.run.Goals as goal
 
 pub returns : goal.returns

@@ -1,15 +1,12 @@
 -- `bill::take_input` meets its contract: the bill holds the lines that were handed over so far. Assumes nothing.
-use mathlib.Core.Path.{◌≡◌, refl, sym, ◌∙◌, subst}
-use mathlib.Core.List.{List, [], ◌∷◌, ◌++◌}
-use Prim.Native.Nat.{ℕ, ◌-◌}
+use mathlib.Core.Path.{refl, sym, ◌∙◌, subst}
+use mathlib.Core.List.{[], ◌∷◌, ◌++◌}
+use Prim.Native.Nat.{ℕ}
 use native.Mathlib.Omega.{arith}
-use lib.ListN.{length, take}
+use lib.ListN.{take}
 use lib.Seq.{length-take-le}
-use Rattle.standard.specs.Delivery.{Bytes}
 use Rattle.table.specs.Lines.{lines}
 use Rattle.lines.specs.Squeeze.{handed_over, all_lines}
-use Rattle.lines.specs.Reader.{Placed}
-use Rattle.program_io.specs.Handed.{Going}
 use Rattle.program_io.proofs.Laws.{block_of, end_of, failure-of}
 use Rattle.bill_lines.specs.Held.{Held}
 use Rattle.bill_lines.proofs.Blocks.{held_none, held-piece}

@@ -1,6 +1,5 @@
 -- `bill::take_tested` meets its contract. Assumes nothing.
 use native.Mathlib.Omega.{arith}
-use borrow.Author.Rules.{rules}
 use Rattle.bill.proofs.take_tested.Goals as goal
 
 pub take_input-requires : goal.take_input-requires

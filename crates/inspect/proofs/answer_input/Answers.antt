@@ -1,22 +1,18 @@
 -- `inspect::answer_input` meets its contract: the rows of what was handed over so far are printed. Assumes nothing.
-use mathlib.Core.Path.{◌≡◌, refl, sym, ◌∙◌, subst}
-use mathlib.Core.List.{List, [], ◌∷◌, ◌++◌}
-use Prim.Native.Nat.{ℕ, ◌-◌}
+use mathlib.Core.Path.{refl, sym, ◌∙◌, subst}
+use mathlib.Core.List.{[], ◌∷◌, ◌++◌}
+use Prim.Native.Nat.{ℕ}
 use native.Mathlib.Omega.{arith}
-use lib.ListN.{length, take}
+use lib.ListN.{take}
 use lib.Seq.{length-take-le}
 use Rattle.table.specs.Lines.{lines}
-use Rattle.lines.specs.Squeeze.{Bytes}
 use Rattle.lines.specs.Pieces.{rows_text}
-use Rattle.lines.specs.Reader.{Placed}
 use Rattle.lines.proofs.Pieces.{rows_none, rows_append, rows-first}
-use Rattle.program_io.specs.Handed.{Going}
-use Rattle.program_io.specs.Printed.{PrintsLines, headed}
+use Rattle.program_io.specs.Printed.{PrintsLines}
 use Rattle.program_io.proofs.Laws.{block_of, end_of, failure-of}
-use Rattle.program_io.proofs.Printing.{Printed, printed-header, headed-behind, headed-first, printed-more, handed-piece, answers-unread, answers-unwritten, answers-end}
+use Rattle.program_io.proofs.Printing.{printed-header, headed-behind, headed-first, printed-more, handed-piece, answers-unread, answers-unwritten, answers-end}
 use Rattle.inspect_rows.specs.Rows.{line_row}
 use Rattle.inspect_rows.proofs.Bounds.{line_first}
-use Rattle.inspect.specs.Header.{header}
 use borrow.Author.Rules.{rules}
 use Rattle.inspect.proofs.answer_input.Goals as goal
 use Rattle.inspect.proofs.answer_input.Goals.{After-print_rows-output}

@@ -3,9 +3,9 @@ use mathlib.Core.Path.{◌≡◌, refl, sym, ◌∙◌}
 use Prim.Native.Nat.{◌-◌, ◌≤◌, ◌<◌}
 use lib.ListN.{length, take, drop}
 use lib.Seq.{length-take-le}
-use Rattle.lines.specs.Pieces.{rows_text, piece_text, piece_used}
-use Rattle.lines.proofs.Pieces.{rows_none, rest-length, used-rest}
-use Rattle.program_io.proofs.Printing.{Printing, printing-start, printing-end, printing-failed, printing-piece}
+use Rattle.lines.specs.Pieces.{piece_text, piece_used}
+use Rattle.lines.proofs.Pieces.{rest-length, used-rest}
+use Rattle.program_io.proofs.Printing.{printing-start, printing-end, printing-failed, printing-piece}
 use Rattle.inspect_rows.specs.Rows.{line_row}
 use native.Mathlib.Omega.{arith}
 use borrow.Author.Rules.{rules}

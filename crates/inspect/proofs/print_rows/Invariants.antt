@@ -1,14 +1,11 @@
 -- `inspect::print_rows` meets its contract. Assumes nothing.
-use mathlib.Core.Path.{◌≡◌, refl, sym, ◌∙◌}
-use Prim.Native.Nat.{◌-◌, ◌≤◌, ◌<◌}
-use lib.ListN.{length, take, drop}
-use lib.Seq.{length-take-le}
-use Rattle.lines.specs.Pieces.{rows_text, piece_text, piece_used}
-use Rattle.lines.proofs.Pieces.{rows_none, rest-length, used-rest}
-use Rattle.program_io.proofs.Printing.{Printing, printing-start, printing-end, printing-failed, printing-piece}
+use mathlib.Core.Path.{◌≡◌}
+use Prim.Native.Nat.{◌-◌}
+use lib.ListN.{length}
+use Rattle.lines.specs.Pieces.{rows_text}
+use Rattle.lines.proofs.Pieces.{rows_none}
+use Rattle.program_io.proofs.Printing.{Printing}
 use Rattle.inspect_rows.specs.Rows.{line_row}
-use native.Mathlib.Omega.{arith}
-use borrow.Author.Rules.{rules}
 use Rattle.inspect.proofs.print_rows.Given as goal
 
 abbrev pub invariant-loop-at : goal.invariant-loop-at

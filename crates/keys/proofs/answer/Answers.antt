@@ -1,6 +1,5 @@
 -- `keys::answer` meets its contract. Assumes nothing.
 use native.Mathlib.Omega.{arith}
-use borrow.Author.Rules.{rules}
 use Rattle.keys.proofs.answer.Goals as goal
 
 pub answer_input-requires : goal.answer_input-requires

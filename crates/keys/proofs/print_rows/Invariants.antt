@@ -1,15 +1,11 @@
 -- `keys::print_rows` meets its contract. Assumes nothing.
-use mathlib.Core.Path.{◌≡◌, refl, sym, ◌∙◌}
-use Prim.Native.Nat.{◌-◌, ◌≤◌, ◌<◌}
-use lib.ListN.{length, take, drop}
-use lib.Seq.{length-take-le}
-use Rattle.lines.specs.Pieces.{rows_text, piece_text, piece_used}
-use Rattle.lines.proofs.Pieces.{rows_none, rest-length, used-rest}
-use Rattle.program_io.proofs.Printing.{Printing, printing-start, printing-end, printing-failed, printing-piece}
+use mathlib.Core.Path.{◌≡◌}
+use Prim.Native.Nat.{◌-◌}
+use lib.ListN.{length}
+use Rattle.lines.specs.Pieces.{rows_text}
+use Rattle.lines.proofs.Pieces.{rows_none}
+use Rattle.program_io.proofs.Printing.{Printing}
 use Rattle.key_rows.specs.Keys.{key_row}
-use Rattle.key_rows.proofs.Laws as laws
-use native.Mathlib.Omega.{arith}
-use borrow.Author.Rules.{rules}
 use Rattle.keys.proofs.print_rows.Given as goal
 
 abbrev pub invariant-loop-at : goal.invariant-loop-at

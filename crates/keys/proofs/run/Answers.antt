@@ -6,8 +6,6 @@ use Rattle.operations.proofs.CompleteChecked.{tested-both}
 use Rattle.program_io.proofs.Printing.{headed-printed}
 use Rattle.program_io.proofs.Runs.{runs-unheaded, runs-replies, runs-refuses}
 use Rattle.keys.specs.Header.{header}
-use borrow.Author.Rules.{rules}
-use native.Mathlib.Omega.{arith}
 use Rattle.keys.proofs.run.Goals as goal
 
 pub returns-then-has_failed : goal.returns-then-has_failed

@@ -1,6 +1,5 @@
 -- `refused::answer` meets its contract. Assumes nothing.
 use native.Mathlib.Omega.{arith}
-use borrow.Author.Rules.{rules}
 use Rattle.refused.proofs.answer.Goals as goal
 
 pub answer_input-requires : goal.answer_input-requires

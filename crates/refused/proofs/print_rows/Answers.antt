@@ -5,9 +5,8 @@ use native.Mathlib.Omega.{arith}
 use lib.ListN.{length, take, drop}
 use lib.Seq.{length-take-le}
 use Rattle.lines.proofs.Pieces.{rest-length}
-use Rattle.refused_rows.specs.Rows.{line_row}
 use Rattle.refused_rows.proofs.Laws as laws
-use Rattle.refused.proofs.Numbers.{Numbering, numbering_start, numbering-more, numbering-end, numbering-failed}
+use Rattle.refused.proofs.Numbers.{numbering_start, numbering-more, numbering-end, numbering-failed}
 use borrow.Author.Rules.{rules}
 use Rattle.refused.proofs.print_rows.Goals as goal
 use Rattle.refused.proofs.print_rows.Goals.{After-rows_hinted-k}

@@ -1,14 +1,9 @@
 -- `refused::print_rows` meets its contract. Assumes nothing.
-use mathlib.Core.Path.{◌≡◌, refl, sym, ◌∙◌}
-use Prim.Native.Nat.{◌-◌, ◌≤◌, ◌<◌}
-use native.Mathlib.Omega.{arith}
-use lib.ListN.{length, take, drop}
-use lib.Seq.{length-take-le}
-use Rattle.lines.proofs.Pieces.{rest-length}
+use mathlib.Core.Path.{◌≡◌}
+use Prim.Native.Nat.{◌-◌}
+use lib.ListN.{length}
 use Rattle.refused_rows.specs.Rows.{line_row}
-use Rattle.refused_rows.proofs.Laws as laws
-use Rattle.refused.proofs.Numbers.{Numbering, numbering_start, numbering-more, numbering-end, numbering-failed}
-use borrow.Author.Rules.{rules}
+use Rattle.refused.proofs.Numbers.{Numbering}
 use Rattle.refused.proofs.print_rows.Given as goal
 
 abbrev pub invariant-loop-at : goal.invariant-loop-at

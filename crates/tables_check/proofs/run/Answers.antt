@@ -7,7 +7,6 @@ use lib.Seq.{length-take-le}
 use Rattle.table_report.specs.Line.{told}
 use Rattle.program_io.proofs.Runs.{read_none, is-printed}
 use borrow.Author.Rules.{rules}
-use native.Mathlib.Omega.{arith}
 use Rattle.tables_check.proofs.run.Goals as goal
 
 pub slice_bounds-print-end : goal.slice_bounds-print-end
