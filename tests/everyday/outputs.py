@@ -86,6 +86,16 @@ def broken(program):
             drive.ends(f"{program}: a broken pipe", ran, 128 + signal.SIGPIPE, b"", first)
 
 
+def unread_refusal():
+    """That tables are refused is not said either where nobody reads the line of it."""
+    folder = drive.folder("unread", {"aliases.tsv": b"language\tiw\n", "likely.tsv": b""})
+    ours, theirs = os.pipe()
+    os.close(ours)
+    ran = drive.run("bill", "--tables", folder, data=LINES["bill"], stdout=theirs)
+    os.close(theirs)
+    drive.ends("bill: bad tables, a broken pipe", ran, 128 + signal.SIGPIPE, b"", drive.in_tables("bill", folder))
+
+
 def head():
     """As in `keys | head -n 1`: the reader goes, and the program soon after, without a word."""
     process = drive.start([ROOT / "keys"], stdin=subprocess.PIPE)
@@ -168,6 +178,7 @@ def checks():
         for each in (full, closed, texts, both_closed, no_error, broken):
             each(program)
     head()
+    unread_refusal()
     cut_bill()
     for program in ROWS_OF_MANY:
         for each in (limit, disk, unready):

@@ -184,7 +184,7 @@ fn run(streams: Streams, aliases: &[u8], likely: &[u8]) -> Run
     let input = m.input;
     let len = m.len;
     let output = output::print(streams.stdout, output::begin(), &block[..len]);
-    say_bill(streams.stderr, b"bill", number);
+    say_bill(streams.stderr, b"bill", number, output);
     Run {
         number,
         input,

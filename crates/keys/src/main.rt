@@ -163,7 +163,7 @@ fn run(streams: Streams, aliases: &[u8], likely: &[u8]) -> Run
     let v = check_likely(aliases, likely);
     if let Verdict::Bad(number, place, table) = v {
         let output = program_io::print_table(streams.stdout, o, number, place, table);
-        say_tables(streams.stderr, b"keys", number);
+        say_tables(streams.stderr, b"keys", number, output);
         return Run {
             number,
             input: input::begin(),

@@ -1,4 +1,4 @@
-// Inner. The last column of the rows of `inspect`: where the parts of an identifier stand.
+// Inner. Where the parts of an identifier stand, as a column of a row that ends with it.
 #![tactic(auto)]
 
 ghost use Rattle.std.specs.Prelude.{◌≡◌, ◌+◌, ◌≤◌, length};

@@ -19,7 +19,8 @@ pub enum Last {
 }
 
 // Where the lines of the piece end; how many bytes of the block were read last, and how many in all; what the last reading
-// gave, and where it failed the system's number for why. Only `begin` and `next` make one, so a program that has one which ended has read to the end.
+// gave, and where it failed the system's number for why. Only `begin` and `next` make one, so a program that has one which
+// ended has read to the end.
 #[derive(Clone, Copy)]
 pub struct Input {
     taken: Taken,

@@ -5,8 +5,8 @@ ghost use Rattle.program_io.specs.Printed.{Prints};
 use crate::system::write_all;
 use std::io::{Error, ErrorKind, Stdout};
 
-// How many bytes were printed, modulo 2^64, whether a write failed, and the system's number for why. Only `begin` and `print` make one, so a program that
-// has one which did not fail has printed them all.
+// How many bytes were printed, modulo 2^64, whether a write failed, and the system's number for why. Only `begin` and
+// `print` make one, so a program that has one which did not fail has printed them all.
 #[derive(Clone, Copy)]
 pub struct Output {
     bytes: usize,

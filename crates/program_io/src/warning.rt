@@ -1,4 +1,5 @@
 // What is said of refused tables and bills, and of an input that is not written as lines that can be read as they are meant.
+use crate::output::{Output, is_unread};
 use crate::say;
 use crate::system::tell;
 use encoding::{Ending, Front, ending_of, front_of};
@@ -12,8 +13,11 @@ fn say_meaning(stderr: Stderr, number: u8, mark: u8) {
     tell(stderr, &words[..end]);
 }
 
-// Says on standard error that the tables are refused, and why.
-pub fn say_tables(stderr: Stderr, program: &[u8], number: u8) {
+// Says on standard error that the tables are refused, and why; nothing where nobody reads what was printed.
+pub fn say_tables(stderr: Stderr, program: &[u8], number: u8, printed: Output) {
+    if is_unread(printed) {
+        return;
+    }
     tell(stderr, program);
     tell(stderr, b": the tables are refused: ");
     say_meaning(stderr, number, b';');
@@ -21,12 +25,15 @@ pub fn say_tables(stderr: Stderr, program: &[u8], number: u8) {
 }
 
 // The same of a bill, whose tables may be the cause; nothing of one that is not refused.
-pub fn say_bill(stderr: Stderr, program: &[u8], number: u8) {
+pub fn say_bill(stderr: Stderr, program: &[u8], number: u8, printed: Output) {
     if number == 0 {
         return;
     }
     if number < 15 {
-        return say_tables(stderr, program, number);
+        return say_tables(stderr, program, number, printed);
+    }
+    if is_unread(printed) {
+        return;
     }
     tell(stderr, program);
     tell(stderr, b": the bill is refused: ");
