@@ -1,4 +1,4 @@
--- The last column of `inspect`: where the parts of an identifier stand. Assumes nothing.
+-- Where the parts of an identifier stand, as the last column of a row. Assumes nothing.
 use Rattle.std.specs.Prelude.{cond, List, [], ◌∷◌, ◌++◌, ℕ, eqb}
 use Rattle.standard.specs.Places.{Span, Places}
 use Rattle.tsv.specs.Fields.{Bytes, decimal, field}
