@@ -1,6 +1,5 @@
 -- The key of a lookup, written into a buffer, and what the lookup makes of the subtag. Assumes nothing.
 use mathlib.Core.Path.{◌≡◌, refl, sym, ap, ap₂, ◌∙◌}
-use mathlib.Core.Bool.{Bool, true, false, cond}
 use mathlib.Core.List.{List, [], ◌∷◌, ◌++◌, append-nil}
 use mathlib.Core.Option.{Option, none, some}
 use Prim.Native.Nat.{ℕ, ◌+◌, ◌≤◌, ◌<◌}
@@ -10,7 +9,7 @@ use lib.Seq.{sets, length-sets, drop_at}
 use Rattle.standard.specs.Tag.{Tag}
 use Rattle.standard.specs.Reading.{optional}
 use Rattle.standard.specs.Table.{lookup, rows, located}
-use Rattle.table.specs.Lines.{value_of}
+use Rattle.table.specs.Lines.{value_if}
 use Rattle.table.proofs.Lines.{lookup-located}
 use Rattle.byte_string.proofs.Stores.{sets-append, front}
 use Rattle.subtag.specs.Sections.{led}
@@ -18,13 +17,13 @@ use Rattle.aliases.specs.Replaced.{replaced_by, aliased_part}
 
 -- what a lookup answers, in place of the subtag
 module _ (A key : List ℕ) (t : Tag) where
-  pub found-row : (located A key).found ≡ true → value_of A (located A key) ≡ replaced_by (lookup (rows A) key) t
+  pub found-row : (v : List ℕ) → some v ≡ value_if A (located A key) → v ≡ replaced_by (lookup (rows A) key) t
   unfolding replaced_by
-  found-row e = sym (ap (λ (o : Option (List ℕ)). replaced_by o t) (lookup-located A key) ∙ ap (λ (b : Bool). replaced_by (cond b (some (value_of A (located A key))) none) t) e)
+  found-row v e = sym (ap (λ (o : Option (List ℕ)). replaced_by o t) (lookup-located A key ∙ sym e))
 
-  pub no_row : (located A key).found ≡ false → t ≡ replaced_by (lookup (rows A) key) t
+  pub no_row : none ≡ value_if A (located A key) → t ≡ replaced_by (lookup (rows A) key) t
   unfolding replaced_by
-  no_row e = sym (ap (λ (o : Option (List ℕ)). replaced_by o t) (lookup-located A key) ∙ ap (λ (b : Bool). replaced_by (cond b (some (value_of A (located A key))) none) t) e)
+  no_row e = sym (ap (λ (o : Option (List ℕ)). replaced_by o t) (lookup-located A key ∙ sym e))
 
 pub record Keyed (name t k : List ℕ) (n e : ℕ) : Type 0 where
   pub fits : e ≤ length k

@@ -1,6 +1,10 @@
 -- Laws of the key that is looked up for a subtag, and of its slot.
 -- Assumes nothing.
-use mathlib.Core.Bool.{false}
+use mathlib.Core.Bool.{Bool, false}
+use Rattle.std.specs.Prelude.{Option, Some, None}
+use Rattle.std.specs.Option.{is_some}
+use Rattle.std.specs.declared.ops.Range.{Range}
+use Rattle.table.specs.Lines.{found_is}
 use mathlib.Core.Path.{◌≡◌, sym, ap, ap₂, ◌∙◌}
 use mathlib.Core.List.{List, ◌++◌}
 use Prim.Native.Nat.{ℕ, ◌+◌, ◌≤◌, ◌<◌}
@@ -13,7 +17,7 @@ use Rattle.byte_string.proofs.Stores.{sets-append, written}
 use Rattle.table.specs.Hints.{slot_from, slot_of, hint_at, Leads, Hinted}
 use Rattle.table.proofs.Hinting.{slot-append, leads-at, hint-none}
 use Rattle.row_shapes.specs.declared.aliases.AliasKind.{AliasKind}
-use Rattle.row_shapes.specs.declared.aliases.AliasKind.TheVariants.{Language, Script, Region, Variant, Unknown}
+use Rattle.row_shapes.specs.declared.aliases.AliasKind.TheVariants.{Language, Script, Region, Variant}
 use Rattle.aliases.specs.Keys.{kind_key, is_key}
 
 -- The hint of a key, whose slot goes on from that of the kind's name.
@@ -33,7 +37,6 @@ kind-size Language = omega arith
 kind-size Script = omega arith
 kind-size Region = omega arith
 kind-size Variant = omega arith
-kind-size Unknown = omega arith
 
 pub written-key : (k : AliasKind) (tag o o₁ o₂ : List ℕ) (n m : ℕ) → length o ≡ 32 → length tag ≤ 16 → n ≡ length (kind_key k) → o₁ ≡ sets o 0 (kind_key k) → m ≡ n + length tag → o₂ ≡ sets o₁ n tag
     → take m o₂ ≡ kind_key k ++ tag
@@ -58,3 +61,8 @@ module _ {k : AliasKind} where
 
 pub sized : (o o₁ x : List ℕ) (n at : ℕ) → length o ≡ n → o₁ ≡ sets o at x → length o₁ ≡ n
 sized o o₁ x n at l e = ap length e ∙ length-sets o at x ∙ l
+
+-- a row was found, or none
+pub is-some-found : (r : Option (Range ℕ)) (f : Located) → found_is r ≡ f → {b : Bool} → b ≡ is_some r → b ≡ f.found
+is-some-found None f e g = g ∙ ap (λ (x : Located). x.found) e
+is-some-found (Some r) f e g = g ∙ ap (λ (x : Located). x.found) e

@@ -6,7 +6,6 @@
 
 ghost use Rattle.std.specs.Prelude.{◌≡◌, List, [], ◌≤◌, length, take};
 ghost use Rattle.standard.specs.Delivery.{Bytes};
-ghost use Rattle.table.specs.Hints.{Hinted};
 ghost use Rattle.operations.specs.Both.{TestedBoth};
 ghost use Rattle.bill_lines.specs.Held.{Held};
 ghost use Rattle.program_io.specs.Handed.{Room};
@@ -15,12 +14,13 @@ ghost use Rattle.bill.specs.Billed.{Bills, Makes};
 
 use bill_lines::{Counts, add_hinted};
 use canonical::buffer::buffer;
+use operations::tables::{TestedTables, tested};
 use program_io::input::Input;
 use program_io::warning::{say_bill, say_encoding};
 use program_io::{Run, Status, Streams, end, finish, input, load_table, output};
 use std::io::Stderr;
 use std::process::ExitCode;
-use table::hints::{fill_hints, many};
+use table::hints::{fill_hints, indexed, many};
 
 // The counts of the bill, and the input as it was read.
 #[derive(Clone, Copy)]
@@ -39,11 +39,8 @@ struct Made {
 
 // Says once how an input is written whose first lines these are.
 fn mention(stderr: Stderr, told: bool, lines: &[u8]) -> bool {
-    if told {
-        return true;
-    }
-    if lines.len() == 0 {
-        return false;
+    if told || lines.is_empty() {
+        return told;
     }
     say_encoding(stderr, b"bill", lines);
     true
@@ -53,24 +50,21 @@ fn mention(stderr: Stderr, told: bool, lines: &[u8]) -> bool {
 fn take_input(
     streams: Streams,
     from: Counts,
-    aliases: &[u8],
-    alias_hints: &[u16],
-    likely: &[u8],
-    likely_hints: &[u16],
+    tables: TestedTables,
     block: &mut [u8],
     piece: &mut [u8],
     keys: &mut [u8],
     counts: &mut [u64],
     out: &mut [u8],
 ) -> Billed
-    requires { let aliases = aliases.now in let likely = likely.now in
-        TestedBoth aliases likely × Hinted aliases alias_hints.now × Hinted likely likely_hints.now × (255 ≤ length out.old)
-        × Room (length block.old) (length piece.old) × (from.number ≡ 0) × Held aliases likely [] from keys.old counts.old }
-    ensures { (bs : List Bytes) × Bills aliases.now likely.now bs result keys.new counts.new }
+    requires { (255 ≤ length out.old) × Room (length block.old) (length piece.old) × (from.number ≡ 0)
+        × Held tables.aliases.rows.now tables.likely.rows.now [] from keys.old counts.old }
+    ensures { (bs : List Bytes) × Bills tables.entry.aliases.rows.now tables.entry.likely.rows.now bs result keys.new counts.new }
 {
     let mut input = input::begin();
     let mut c = from;
     let mut told = false;
+    // until the input ends, reading fails or the bill is refused
     loop {
         input = input::next(streams.stdin, input, block, piece);
         if input::has_failed(input) {
@@ -78,17 +72,7 @@ fn take_input(
         }
         let whole = input::whole(input);
         told = mention(streams.stderr, told, &piece[..whole]);
-        c = add_hinted(
-            c,
-            &piece[..whole],
-            aliases,
-            alias_hints,
-            likely,
-            likely_hints,
-            keys,
-            counts,
-            out,
-        );
+        c = add_hinted(c, &piece[..whole], tables, keys, counts, out);
         if c.number != 0 {
             return Billed { counts: c, input };
         }
@@ -126,14 +110,18 @@ fn take_tested(
         × Held aliases.now likely.now [] from keys.old counts.old }
     ensures { (bs : List Bytes) × Bills aliases.now likely.now bs result keys.new counts.new }
 {
-    let mut a = many();
-    fill_hints(aliases, &mut a);
-    let mut l = many();
-    fill_hints(likely, &mut l);
+    let mut alias_hints = many();
+    fill_hints(aliases, &mut alias_hints);
+    let mut likely_hints = many();
+    fill_hints(likely, &mut likely_hints);
+    let tables = tested(
+        indexed(aliases, &alias_hints),
+        indexed(likely, &likely_hints),
+    );
     let mut piece = input::piece_buffer();
     let mut out = buffer();
     take_input(
-        streams, from, aliases, &a, likely, &l, block, &mut piece, keys, counts, &mut out,
+        streams, from, tables, block, &mut piece, keys, counts, &mut out,
     )
 }
 
@@ -156,9 +144,8 @@ fn make_text(streams: Streams, aliases: &[u8], likely: &[u8], block: &mut [u8]) 
             input: input::begin(),
         };
     }
-    let b = take_tested(streams, c, aliases, likely, block, &mut keys, &mut counts);
-    let d = b.counts;
-    let input = b.input;
+    let billed = take_tested(streams, c, aliases, likely, block, &mut keys, &mut counts);
+    let input = billed.input;
     if input::has_failed(input) {
         return Made {
             len: 0,
@@ -166,10 +153,10 @@ fn make_text(streams: Streams, aliases: &[u8], likely: &[u8], block: &mut [u8]) 
             input,
         };
     }
-    let len = bill_lines::text::write(d, &keys, &counts, block);
+    let len = bill_lines::text::write(billed.counts, &keys, &counts, block);
     Made {
         len,
-        number: d.number,
+        number: billed.counts.number,
         input,
     }
 }
@@ -179,15 +166,12 @@ fn run(streams: Streams, aliases: &[u8], likely: &[u8]) -> Run
     ensures { (bs : List Bytes) × Makes aliases.now likely.now bs result.number result.input (IsPrinted result.output) }
 {
     let mut block = input::block_buffer();
-    let m = make_text(streams, aliases, likely, &mut block);
-    let number = m.number;
-    let input = m.input;
-    let len = m.len;
-    let output = output::print(streams.stdout, output::begin(), &block[..len]);
-    say_bill(streams.stderr, b"bill", number, output);
+    let made = make_text(streams, aliases, likely, &mut block);
+    let output = output::print(streams.stdout, output::begin(), &block[..made.len]);
+    say_bill(streams.stderr, b"bill", made.number, output);
     Run {
-        number,
-        input,
+        number: made.number,
+        input: made.input,
         output,
     }
 }
@@ -198,18 +182,16 @@ fn main(rt: HostRuntime) -> ExitCode {
         stdout: rt.stdout(),
         stderr: rt.stderr(),
     };
-    let mut a = program_io::buffer();
-    let mut l = program_io::buffer();
-    let x = load_table(&rt, streams.stderr, b"bill", "aliases.tsv", &mut a);
-    if !x.read {
+    let mut aliases = program_io::buffer();
+    let mut likely = program_io::buffer();
+    let Some(aliases_len) = load_table(&rt, streams.stderr, b"bill", "aliases.tsv", &mut aliases)
+    else {
         return finish(&rt, Status::Failed);
-    }
-    let y = load_table(&rt, streams.stderr, b"bill", "likely.tsv", &mut l);
-    if !y.read {
+    };
+    let Some(likely_len) = load_table(&rt, streams.stderr, b"bill", "likely.tsv", &mut likely)
+    else {
         return finish(&rt, Status::Failed);
-    }
-    let a_len = x.len;
-    let l_len = y.len;
-    let r = run(streams, &a[..a_len], &l[..l_len]);
+    };
+    let r = run(streams, &aliases[..aliases_len], &likely[..likely_len]);
     end(&rt, streams.stderr, b"bill", r)
 }

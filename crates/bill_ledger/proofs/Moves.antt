@@ -2,20 +2,23 @@
 use mathlib.Core.Path.{◌≡◌, refl, sym, ap, ◌∙◌}
 use mathlib.Core.Bool.{Bool, true, false}
 use mathlib.Core.List.{List}
-use Prim.Native.Nat.{ℕ, Ordering, ◌+◌, ◌-◌, ◌*◌, ◌≤◌, ◌<◌}
+use Prim.Native.Nat.{ℕ, Ordering, ◌+◌, ◌-◌, ◌≤◌, ◌<◌}
 use native.Mathlib.Omega.{arith}
 use lib.Dec.{leb}
-use lib.ListN.{get_or, length, set, length-set, take, drop}
-use lib.Seq.{get_or-set_same, get_or-set_other}
+use lib.ListN.{get_or, length, take, drop, length-take}
 use borrow.Author.Tests.{le-leb, lt-leb, leb-true, leb-false}
 use Rattle.standard.specs.Tag.{Tag, order}
 use Rattle.standard.specs.Delivery.{Bytes}
-use Rattle.byte_string.specs.declared.Order.{Order}
+use Rattle.std.specs.Prelude.{min}
+use Rattle.std.specs.List.{CopiedTo, SameBelow, SameFrom}
+use Rattle.std.specs.Ordering.{is_lt as is_less}
+use Rattle.std.specs.declared.cmp.Ordering.{Ordering as Answer}
+use Rattle.std.specs.declared.cmp.Ordering.TheVariants.{Less, Equal, Greater}
 use Rattle.byte_string.specs.Strings.{order_of}
 use Rattle.bill_ledger.specs.Entries.{place_in}
-use Rattle.bill_ledger.specs.Places.{is_lt, at_most31, text_at, entries_from, Moving, Moved}
+use Rattle.bill_ledger.specs.Places.{is_lt, at_most31, text_at, entries_from, Moved}
 use Rattle.bill_ledger.specs.Up.{Up}
-use Rattle.bill_ledger.proofs.Places.{key-part, place-within, place-low, place-high}
+use Rattle.bill_ledger.proofs.Places.{place-within, place-low, place-high}
 
 pub short : (n : ℕ) → n ≤ 31 → at_most31 n ≡ n
 unfolding at_most31
@@ -25,9 +28,21 @@ pub long : (n : ℕ) → 31 < n → at_most31 n ≡ 31
 unfolding at_most31
 long n h = rw (lt-leb n 31 h)
 
-pub below_key : (o : Order) (ks : Bytes) (k : Tag) (i a e m : ℕ) → order_of o ≡ order (take (e - a) (drop a ks)) k → a ≡ 32 * i + 1 → e ≡ a + m → m ≡ at_most31 (get_or ks (32 * i) 0) → e ≤ length ks
-    → is_lt (order_of o) ≡ is_lt (order (text_at ks i) k)
-below_key o ks k i a e m f p q r h = ap is_lt (f ∙ ap (λ (x : Bytes). order x k) (key-part ks i a e m p q r h))
+pub length-part : (ks : Bytes) (a e m : ℕ) → e ≡ a + m → m ≤ 31 → length (take (e - a) (drop a ks)) ≤ 31
+length-part ks a e m q h = simp length-take (omega arith)
+
+pub most-31 : (n m : ℕ) → m ≡ min n 31 → m ≡ at_most31 n
+most-31 n m e = go (leb n 31) refl
+  where
+    go : (b : Bool) → leb n 31 ≡ b → m ≡ at_most31 n
+    go true f = let h = leb-true n 31 f in let z : m ≡ n = omega arith in z ∙ sym (short n h)
+    go false f = let h = leb-false n 31 f in let z : m ≡ 31 = omega arith in z ∙ sym (long n h)
+
+pub lt-is : (o : Answer) (x : Ordering) → order_of o ≡ x → is_less o ≡ is_lt x
+unfolding is_lt
+lt-is Less x e = rw (← e)
+lt-is Equal x e = rw (← e)
+lt-is Greater x e = rw (← e)
 
 pub is-lt : (o : Ordering) → is_lt o ≡ true → o ≡ Ordering.lt
 unfolding is_lt
@@ -41,27 +56,10 @@ not-lt Ordering.lt e f = let z : ◌≡◌ {A = ℕ} 0 1 = cc in omega arith
 not-lt Ordering.eq e f = let z : ◌≡◌ {A = ℕ} 0 1 = cc in omega arith
 not-lt Ordering.gt e f = let z : ◌≡◌ {A = ℕ} 0 1 = cc in omega arith
 
-pub moving-start : (a : List ℕ) (end w : ℕ) → Moving a a end end w
-moving-start a end w = record { size = refl; low = λ i h. refl; high = λ i h k. absurd (omega arith) }
-
-pub moving-more : (a b : List ℕ) (j end w : ℕ) → 0 < j → j + w ≤ length b → Moving a b j end w → Moving a (set b (j - 1 + w) (get_or b (j - 1) 0)) (j - 1) end w
-moving-more a b j end w p q m = record {
-  size = length-set b (j - 1 + w) (get_or b (j - 1) 0) ∙ m.size;
-  low = λ i h. get_or-set_other b (j - 1 + w) i (get_or b (j - 1) 0) 0 (λ (e : i ≡ j - 1 + w). omega arith) ∙ m.low i (omega arith);
-  high = λ i h k. go i h k (leb j i) refl;
-}
-  where
-    go : (i : ℕ) → j - 1 ≤ i → i < end → (t : Bool) → leb j i ≡ t → get_or (set b (j - 1 + w) (get_or b (j - 1) 0)) (i + w) 0 ≡ get_or a i 0
-    go i h k true e =
-        let z = leb-true j i e in
-        get_or-set_other b (j - 1 + w) (i + w) (get_or b (j - 1) 0) 0 (λ (f : i + w ≡ j - 1 + w). omega arith) ∙ m.high i z k
-    go i h k false e =
-        let y = leb-false j i e in
-        let z : i ≡ j - 1 = omega arith in
-        ap (λ (n : ℕ). get_or (set b (j - 1 + w) (get_or b (j - 1) 0)) (n + w) 0) z ∙ get_or-set_same b (j - 1 + w) (get_or b (j - 1) 0) 0 (omega arith) ∙ m.low (j - 1) (omega arith) ∙ ap (λ (n : ℕ). get_or a n 0) (sym z)
-
-pub moving-end : (a b : List ℕ) (at end w j : ℕ) → j ≤ at → at ≤ j → Moving a b j end w → Moved a b at end w
-moving-end a b at end w j p q m = record { size = m.size; low = λ i h. m.low i (omega arith); high = λ i h k. m.high i (omega arith) k }
+-- what std's copy within an array leaves
+pub moved : (a b : List ℕ) (at end w : ℕ) → at ≤ end → end + w ≤ length a → length b ≡ length a
+    → CopiedTo a b at (at + w) (end - at) × SameBelow a b (at + w) × SameFrom a b (at + w + (end - at)) → Moved a b at end w
+moved a b at end w h k s m = record { size = s; low = λ i g. m.1 i 0 g; high = λ i g l. m.0 (i + w) 0 (omega arith) (omega arith) ∙ ap (λ (j : ℕ). get_or a j 0) (let z : at + (i + w - (at + w)) ≡ i = omega arith in z) }
 
 -- the search by halves: the key's place is from lo to hi
 pub record Between (ks : Bytes) (k : Tag) (n lo hi : ℕ) : Type 0 where

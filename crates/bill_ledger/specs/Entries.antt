@@ -4,7 +4,7 @@ use Rattle.std.specs.Prelude.{Bool, false, List, [], ◌∷◌, ℕ, zero, suc, 
 use Prim.Native.Nat.{Ordering}
 use Rattle.std.specs.Int.Bits.{bit_or}
 use Rattle.standard.specs.Tag.{Tag, order, same}
-use Rattle.bill_rules.specs.Bill.{Usage, deliveries}
+use Rattle.bill_rules.specs.Bill.{Usage}
 
 -- marks has the bit of member m at m - 1
 pub record Entry : Type 0 where

@@ -38,12 +38,6 @@ pub record Moved (a b : List ℕ) (at j w : ℕ) : Type 0 where
   pub low : (i : ℕ) → i < at + w → get_or b i 0 ≡ get_or a i 0
   pub high : (i : ℕ) → at ≤ i → i < j → get_or b (i + w) 0 ≡ get_or a i 0
 
--- on the way: what was at j and behind it, up to end, has moved up by w
-pub record Moving (a b : List ℕ) (j end w : ℕ) : Type 0 where
-  pub size : length b ≡ length a
-  pub low : (i : ℕ) → i < j + w → get_or b i 0 ≡ get_or a i 0
-  pub high : (i : ℕ) → j ≤ i → i < end → get_or b (i + w) 0 ≡ get_or a i 0
-
 -- a key more at a place, those from there on one further
 pub record KeyMore (a b : Bytes) (n at : ℕ) (k : Tag) : Type 0 where
   pub size : length b ≡ length a

@@ -1,5 +1,5 @@
 -- Entries in byte order of their keys, each once. Assumes nothing.
-use Rattle.std.specs.Prelude.{◌≡◌, List, [], ◌∷◌, ℕ, ◌≤◌, ◌<◌, length}
+use Rattle.std.specs.Prelude.{◌≡◌, List, [], ◌∷◌, ℕ, ◌≤◌, ◌<◌, length, Option, Some, None}
 use Prim.Native.Nat.{Ordering}
 use Rattle.standard.specs.Tag.{order}
 use Rattle.bill_rules.specs.Bill.{Usage}
@@ -26,3 +26,8 @@ pub record Sized (ks : Bytes) (cs : List ℕ) : Type 0 where
 pub record Added (u : Usage) (es : List Entry) (ks : Bytes) (cs : List ℕ) (r : ℕ) : Type 0 where
   pub count : r ≡ length (add_to u es)
   pub entries : r ≤ 512 → entries_from ks cs 0 r ≡ add_to u es
+
+-- how many entries there are after a usage: one more than have room, where there is none
+abbrev pub count_of : Option ℕ → ℕ
+count_of None = 513
+count_of (Some r) = r

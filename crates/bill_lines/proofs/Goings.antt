@@ -14,7 +14,7 @@ use Rattle.standard.specs.Tag.{Tag}
 use Rattle.standard.specs.Identifier.{Tables}
 use Rattle.standard.specs.Delivery.{Bytes}
 use Rattle.bill_rules.specs.Order.{Reordered, kept, swapped, again}
-use Rattle.bill_rules.specs.Bill.{Usage, usage, accepted, usages, refusing, refusals, keys_of, more, bill, refused_with, most_keys, most_lines, bill_of}
+use Rattle.bill_rules.specs.Bill.{Usage, usage, accepted, usages, refusing, refusals, keys_of, more, refused_with, most_keys, most_lines, bill_of}
 use Rattle.bill_rules.proofs.Keys.{elem, different, sorted-length}
 use Rattle.bill_rules.proofs.Orders.{reordered-refl, keys-order, usages-order, refusals-order, length-order}
 use Rattle.bill_ledger.specs.Entries.{Entry, add_to}
@@ -23,9 +23,10 @@ use Rattle.bill_ledger.specs.Ledger.{entries_of}
 use Rattle.bill_ledger.specs.Up.{Up, Few, Added}
 use Rattle.bill_ledger.proofs.Changes.{length-entries}
 use Rattle.bill_ledger.proofs.Ledgers.{add-entries, entries-up, entries-few, entries-length}
+use Rattle.std.specs.Prelude.{Some, None}
 use Rattle.bill_lines.specs.declared.Counts.{Counts}
 use Rattle.bill_lines.specs.declared.line.Used.{Used}
-use Rattle.bill_lines.specs.State.{used_by, used_is, Bounded, only, one_more, Going, Good}
+use Rattle.bill_lines.specs.State.{used_is, Bounded, only, one_more, Going, Good}
 
 -- the latest line first
 back_last : (ls : List Bytes) (l : Bytes) (rs : List Bytes) → reverse_aux (ls ++ (l ∷ [])) rs ≡ l ∷ reverse_aux ls rs
@@ -189,33 +190,22 @@ pub bounded-more : (c : Counts) (k r : ℕ) → Bounded c → c.lines < 1000000 
 unfolding one_more
 bounded-more c k r b h p q = record { keys = p; lines = omega (arith, h); refused = omega (arith, b.refused, q) }
 
--- what a line says, with a member
-pub said : (m n : ℕ) (out : Bytes) (o : Option Usage) → used_by m n out ≡ o → (m ≡ 0 → ⊥) → o ≡ some (record { member = m; key = take n out })
-unfolding used_by
-said zero n out o e h = absurd (h refl)
-said (suc m) n out o e h = sym e
-
-pub said-none : (m n : ℕ) (out : Bytes) (o : Option Usage) → used_by m n out ≡ o → m ≡ 0 → o ≡ none
-unfolding used_by
-said-none m n out o e h = sym e ∙ ap (λ (k : ℕ). used_by k n out) h
-
 -- the same, of the code's results
 module _ (T : Tables) (ls : List Bytes) (c : Counts) (ks : Bytes) (cs : List ℕ) (l : Bytes) (g : Going T ls c ks cs) (r : Counts) where
   pub at-18 : r ≡ only 18 0 0 → 1000000 ≤ c.lines → Good T (ls ++ (l ∷ [])) r ks cs
   at-18 e h = subst (λ (q : Counts). Good T (ls ++ (l ∷ [])) q ks cs) (sym e) (line-18 T ls c ks cs g l h)
 
-  pub at-refused : (u : Used) (out : Bytes) → r ≡ one_more c c.keys (c.refused + 1) → c.lines < 1000000 → used_is u out ≡ usage T l → u.member ≡ 0 → Good T (ls ++ (l ∷ [])) r ks cs
-  unfolding used_is
-  at-refused u out e h f z = subst (λ (q : Counts). Good T (ls ++ (l ∷ [])) q ks cs) (sym e) (line_refused T ls c ks cs g l h (said-none u.member u.len out (usage T l) f z))
+  pub at-refused : (out : Bytes) → r ≡ one_more c c.keys (c.refused + 1) → c.lines < 1000000 → used_is None out ≡ usage T l → Good T (ls ++ (l ∷ [])) r ks cs
+  at-refused out e h f = subst (λ (q : Counts). Good T (ls ++ (l ∷ [])) q ks cs) (sym e) (line_refused T ls c ks cs g l h (sym f))
 
-  module _ (u : Used) (out : Bytes) (f : used_is u out ≡ usage T l) (z : u.member ≡ 0 → ⊥) (h : c.lines < 1000000) (ks' : Bytes) (cs' : List ℕ) (n : ℕ)
+  module _ (u : Used) (out : Bytes) (f : used_is (Some u) out ≡ usage T l) (h : c.lines < 1000000) (ks' : Bytes) (cs' : List ℕ) (n : ℕ)
       (a : Up (entries_from ks cs 0 c.keys) → Few (entries_from ks cs 0 c.keys) → Added (record { member = u.member; key = take u.len out }) (entries_from ks cs 0 c.keys) ks' cs' n) where
     used : Usage
     used = record { member = u.member; key = take u.len out }
 
     use-it : usage T l ≡ some used
-    unfolding used_is used
-    use-it = said u.member u.len out (usage T l) f z
+    unfolding used
+    use-it = sym f
 
     it-is : Added used (entries_from ks cs 0 c.keys) ks' cs' n
     unfolding used

@@ -8,9 +8,9 @@ use native.Mathlib.Omega.{arith}
 use Rattle.standard.specs.Delivery.{Bytes}
 use Rattle.standard.specs.Table.{TableFault, tables_of, check, to_maximise}
 use Rattle.standard.proofs.Numbers.{TableWithin, check-within}
-use Rattle.table_check.specs.declared.Verdict.{Verdict}
-use Rattle.table_check.specs.declared.Verdict.TheVariants.{Good, Bad}
-use Rattle.table_check.specs.Verdicts.{verdict_is}
+use Rattle.std.specs.Prelude.{⊤, Result, Ok, Err}
+use Rattle.table_check.specs.declared.Fault.{Fault}
+use Rattle.table_check.specs.Verdicts.{verdict_is, number_of, table_of}
 use Rattle.bill_rules.specs.Bill.{usages, refusals, keys_of}
 use Rattle.standard.specs.Tag.{sort_by}
 use Rattle.bill_ledger.specs.Places.{entries_from}
@@ -26,17 +26,17 @@ fault-eq : {f g : TableFault} → ◌≡◌ {A = Option TableFault} (some f) (so
 fault-eq e = cc
 
 -- no lines yet
-pub held_start : (A L ks : Bytes) (cs : List ℕ) (v : Verdict) (r : Counts) → verdict_is v ≡ check to_maximise A L [] → r ≡ judged_by v → Sized ks cs → Held A L [] r ks cs
+pub held_start : (A L ks : Bytes) (cs : List ℕ) (v : Result ⊤ Fault) (r : Counts) → verdict_is v ≡ check to_maximise A L [] → r ≡ judged_by v → Sized ks cs → Held A L [] r ks cs
 unfolding judged_by only faulted GoodBill refusals usages entries_from entries_of keys_of sort_by
-held_start A L ks cs Good r e f s = subst (λ (c : Counts). Held A L [] c ks cs) (sym f) (record {
+held_start A L ks cs (Ok done) r e f s = subst (λ (c : Counts). Held A L [] c ks cs) (sym f) (record {
   sized = s;
   bounded = bounded-only (only 0 0 0) 0 0 0 refl;
   good = λ _. inl (record { number = refl; place = refl; table = refl; lines = refl; most-lines = omega arith; refused = refl; most-keys = omega arith; entries = refl });
   bad = λ g h. absurd (none-ne-some g (e ∙ h));
 })
-held_start A L ks cs (Bad n p t) r e f s = subst (λ (c : Counts). Held A L [] c ks cs) (sym f) (record {
+held_start A L ks cs (Err w) r e f s = subst (λ (c : Counts). Held A L [] c ks cs) (sym f) (record {
   sized = s;
-  bounded = bounded-only (only n p t) n p t refl;
+  bounded = bounded-only (only (number_of w) w.place (table_of w)) (number_of w) w.place (table_of w) refl;
   good = λ h. absurd (none-ne-some _ (sym h ∙ sym e));
   bad = λ g h. ap faulted (fault-eq (e ∙ h));
 })
@@ -57,13 +57,13 @@ module _ (A L : Bytes) (ls ms : List Bytes) (c : Counts) (ks : Bytes) (cs : List
   }
 
   -- bad tables have a number
-  pub held-bad : {n p t : ℕ} (v : Verdict) → verdict_is v ≡ check to_maximise A L [] → v ≡ Bad n p t → c.number ≡ 0 → ⊥
+  pub held-bad : {w : Fault} (v : Result ⊤ Fault) → verdict_is v ≡ check to_maximise A L [] → v ≡ Err w → c.number ≡ 0 → ⊥
   unfolding TableWithin faulted only
-  held-bad {n} {p} {t} v e f z =
+  held-bad {w} v e f z =
       let g = sym (ap verdict_is f) ∙ e in
-      let w = subst TableWithin (sym g) (check-within to_maximise A L []) in
+      let y = subst TableWithin (sym g) (check-within to_maximise A L []) in
       let q = ap (λ (x : Counts). x.number) (h.bad _ (sym g)) in
-      omega (arith, w.0, q, z)
+      omega (arith, y.0, q, z)
 
 -- tables that gave no fault passed
 pub held-passes : (A L : Bytes) (ls : List Bytes) (c : Counts) (ks : Bytes) (cs : List ℕ) → Held A L ls c ks cs → c.number ≡ 0 → check to_maximise A L [] ≡ none

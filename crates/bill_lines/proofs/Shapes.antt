@@ -2,12 +2,13 @@
 use mathlib.Core.Path.{◌≡◌, refl, sym, ap, ◌∙◌}
 use mathlib.Core.Bool.{Bool, true, false}
 use mathlib.Core.List.{[], ◌∷◌}
-use mathlib.Core.Option.{Option, none, some}
-use Prim.Native.Nat.{ℕ, zero, suc, ◌+◌, ◌-◌, ◌*◌, ◌≤◌, ◌<◌}
+use mathlib.Core.Option.{Option, none, some, none-ne-some}
+use mathlib.Core.Logic.{◌⊎◌, inl, inr}
+use Prim.Native.Nat.{ℕ, suc, ◌+◌, ◌-◌, ◌*◌, ◌≤◌, ◌<◌}
 use native.Mathlib.Omega.{arith}
-use lib.Dec.{eqb, leb}
+use lib.Dec.{eqb}
 use lib.ListN.{length, take, drop, get_or}
-use borrow.Author.Tests.{le-leb, lt-leb, eqb-true, eqb-false}
+use borrow.Author.Tests.{le-leb, lt-leb, eqb-false, eq-eqb, ne_eqb}
 use Rattle.standard.specs.Grammar.{digit}
 use Rattle.standard.specs.Delivery.{Bytes}
 use Rattle.standard.proofs.General.{bool_cases}
@@ -15,16 +16,11 @@ use Rattle.byte_string.specs.Strings.{end_of}
 use Rattle.subtag.proofs.Bytes.{digit-in}
 use Rattle.bill_rules.specs.Bill.{leading, member_of, before_tab, after_tab}
 use Rattle.bill_rules.proofs.Refusals.{leading-digit}
-use Rattle.bill_lines.specs.Shapes.{or_zero, member_if, Shaped}
+use Rattle.bill_lines.specs.Shapes.{member_if, Shaped}
+use Rattle.std.specs.Prelude.{Some, None}
 
-pub one-other : (d : ℕ) → digit d ≡ false → 0 ≡ or_zero (member_of (d ∷ []))
-unfolding or_zero member_of leading
-one-other d e = rw e
-
--- 0 is no member, and is the value of the digit 0
-pub one-digit : (d : ℕ) → digit d ≡ true → d - 48 ≡ or_zero (member_of (d ∷ []))
-unfolding or_zero member_of leading
-one-digit d e = bool_cases (eqb d 48) (λ z. let q = eqb-true d 48 z in rw (e, z) (omega arith)) (λ z. rw (e, z))
+pub number-eq : {m n : ℕ} → ◌≡◌ {A = Option ℕ} (some m) (some n) → m ≡ n
+number-eq e = cc
 
 -- the first digit of a number is 1 to 9
 pub leading-in : (d : ℕ) → leading d ≡ true → (49 ≤ d) × (d ≤ 57)
@@ -34,36 +30,49 @@ leading-in d e =
     let z = eqb-false d 48 a.1 in
     (omega arith, r.high)
 
+-- 0 is no member
+is-leading : (d : ℕ) → digit d ≡ true → (d ≡ 48 → ⊥) → leading d ≡ true
+unfolding leading
+is-leading d e f = rw (e, ne_eqb d 48 f)
+
+pub one-digit : (d : ℕ) → digit d ≡ true → (d ≡ 48 → ⊥) → (some (d - 48) ≡ member_of (d ∷ [])) × (1 ≤ d - 48) × (d - 48 ≤ 64)
+unfolding member_of
+one-digit d e f = let l = is-leading d e f in let h = leading-in d l in (rw l, omega (arith, h.0), omega (arith, h.1))
+
+pub one-other : (d : ℕ) → (digit d ≡ false) ⊎ (d ≡ 48) → none ≡ member_of (d ∷ [])
+unfolding member_of leading
+one-other d (inl e) = rw e
+one-other d (inr e) = rw (eq-eqb d 48 e) (bool_cases (digit d) (λ q. rw q) (λ q. rw q))
+
 -- a first digit d, which names the member t or none, and a second e
-module _ (d t : ℕ) (q : t ≡ or_zero (member_of (d ∷ []))) where
-  pub tens-none : (e : ℕ) → t ≡ 0 → 0 ≡ or_zero (member_of (d ∷ e ∷ []))
-  unfolding or_zero member_of
-  tens-none e z = bool_cases (leading d) (λ l. absurd (let k : t ≡ d - 48 = q ∙ rw l in let h = leading-in d l in omega (arith, h.0))) (λ l. rw l)
+pub first-none : (d e : ℕ) → none ≡ member_of (d ∷ []) → none ≡ member_of (d ∷ e ∷ [])
+unfolding member_of
+first-none d e q = bool_cases (leading d) (λ l. absurd (none-ne-some (d - 48) (q ∙ rw l))) (λ l. rw l)
 
-  module _ (z : t ≡ 0 → ⊥) where
-    tens-first : leading d ≡ true
-    unfolding or_zero member_of
-    tens-first = bool_cases (leading d) (λ l. l) (λ l. absurd (z (q ∙ rw l)))
+module _ (d t : ℕ) (q : some t ≡ member_of (d ∷ [])) where
+  tens-first : leading d ≡ true
+  unfolding member_of
+  tens-first = bool_cases (leading d) (λ l. l) (λ l. absurd (none-ne-some t (sym (q ∙ rw l))))
 
-    tens-are : t ≡ d - 48
-    unfolding or_zero member_of
-    tens-are = q ∙ rw tens-first
+  tens-are : t ≡ d - 48
+  unfolding member_of
+  tens-are = number-eq (q ∙ rw tens-first)
 
-    pub tens-most : t ≤ 9
-    tens-most = let h = leading-in d tens-first in let k = tens-are in omega (arith, h.1)
+  pub tens-in : (1 ≤ t) × (t ≤ 9)
+  tens-in = let h = leading-in d tens-first in let k = tens-are in (omega (arith, h.0), omega (arith, h.1))
 
-    module _ (e : ℕ) where
-      pub two-other : digit e ≡ false → 0 ≡ or_zero (member_of (d ∷ e ∷ []))
-      unfolding or_zero member_of
-      two-other g = rw (tens-first, g)
+  module _ (e : ℕ) where
+    pub two-other : digit e ≡ false → none ≡ member_of (d ∷ e ∷ [])
+    unfolding member_of
+    two-other g = rw (tens-first, g)
 
-      pub two-over : digit e ≡ true → 64 < t * 10 + (e - 48) → 0 ≡ or_zero (member_of (d ∷ e ∷ []))
-      unfolding or_zero member_of
-      two-over g h = rw (tens-first, g, lt-leb ((d - 48) * 10 + (e - 48)) 64 (rw tens-are at h))
+    pub two-over : digit e ≡ true → 64 < t * 10 + (e - 48) → none ≡ member_of (d ∷ e ∷ [])
+    unfolding member_of
+    two-over g h = rw (tens-first, g, lt-leb ((d - 48) * 10 + (e - 48)) 64 (rw tens-are at h))
 
-      pub two_digits : digit e ≡ true → t * 10 + (e - 48) ≤ 64 → t * 10 + (e - 48) ≡ or_zero (member_of (d ∷ e ∷ []))
-      unfolding or_zero member_of
-      two_digits g h = rw tens-are (rw (tens-first, g, le-leb ((d - 48) * 10 + (e - 48)) 64 (rw tens-are at h)))
+    pub two_digits : digit e ≡ true → t * 10 + (e - 48) ≤ 64 → some (t * 10 + (e - 48)) ≡ member_of (d ∷ e ∷ [])
+    unfolding member_of
+    two_digits g h = rw tens-are (rw (tens-first, g, le-leb ((d - 48) * 10 + (e - 48)) 64 (rw tens-are at h)))
 
 -- the tab
 pub tab-before : (l : Bytes) → before_tab l ≡ take (end_of 9 l 0) l
@@ -96,57 +105,40 @@ tab-none (x ∷ l) h = go (eqb x 9) refl h (tab-none l)
     go false e k i = let n : end_of 9 (x ∷ l) 0 ≡ suc (end_of 9 l 0) = rw e in rw (e, after_tab) (i (omega arith))
 
 -- the shapes that a line may have
-pub no-tab : (l : Bytes) → length l ≤ end_of 9 l 0 → Shaped l (record { member = 0; start = 0 })
+pub no-tab : (l : Bytes) → length l ≤ end_of 9 l 0 → Shaped l None
 unfolding member_if
-no-tab l h = record { member = sym (ap (λ (o : Option Bytes). member_if o (member_of (before_tab l))) (tab-none l h)); most = omega arith; within = omega arith; rest = λ k. absurd (omega arith) }
+no-tab l h = ap (λ (o : Option Bytes). member_if o (member_of (before_tab l))) (tab-none l h)
 
-pub number-tab : (l : Bytes) (t m : ℕ) → t ≡ end_of 9 l 0 → t < length l → m ≡ or_zero (member_of (take t l)) → m ≤ 64 → Shaped l (record { member = m; start = t + 1 })
-unfolding member_if
-number-tab l t m e h f k =
-    let a : after_tab l ≡ some (drop (t + 1) l) = tab-after l (rw (sym e) h) ∙ ap (λ (n : ℕ). some (drop (n + 1) l)) (sym e) in
-    record {
-      member = f ∙ ap (λ (x : Bytes). or_zero (member_of x)) (ap (λ (n : ℕ). take n l) e ∙ sym (tab-before l)) ∙ sym (ap (λ (o : Option Bytes). member_if o (member_of (before_tab l))) a);
-      most = k;
-      within = omega arith;
-      rest = λ _. a;
-    }
+-- a tab at t, and what the bytes before it name
+module _ (l : Bytes) (t : ℕ) (e : t ≡ end_of 9 l 0) (h : t < length l) where
+  after : after_tab l ≡ some (drop (t + 1) l)
+  after = tab-after l (rw (sym e) h) ∙ ap (λ (n : ℕ). some (drop (n + 1) l)) (sym e)
 
--- no number has none, or three digits
-pub wrong_size_lem : (l : Bytes) (t : ℕ) → t ≡ end_of 9 l 0 → t < length l → (t ≡ 1 → ⊥) → (t ≡ 2 → ⊥) → Shaped l (record { member = 0; start = 0 })
-unfolding member_if or_zero member_of
-wrong_size_lem l t e h f g =
-    let a = tab-after l (rw (sym e) h) in
-    record {
-      member = sym (ap (λ (o : Option Bytes). member_if o (member_of (before_tab l))) a ∙ ap (λ (x : Bytes). or_zero (member_of x)) (tab-before l ∙ ap (λ (n : ℕ). take n l) (sym e)) ∙ sizes t l f g h);
-      most = omega arith;
-      within = omega arith;
-      rest = λ k. absurd (omega arith);
-    }
-  where
-    sizes : (t : ℕ) (l : Bytes) → (t ≡ 1 → ⊥) → (t ≡ 2 → ⊥) → t < length l → or_zero (member_of (take t l)) ≡ 0
-    sizes zero l f g h = refl
-    sizes (suc zero) l f g h = absurd (f refl)
-    sizes (suc (suc zero)) l f g h = absurd (g refl)
-    sizes (suc (suc (suc t))) [] f g h = refl
-    sizes (suc (suc (suc t))) (a ∷ []) f g h = absurd (omega arith)
-    sizes (suc (suc (suc t))) (a ∷ b ∷ []) f g h = absurd (omega arith)
-    sizes (suc (suc (suc t))) (a ∷ b ∷ c ∷ l) f g h = refl
+  before : member_of (before_tab l) ≡ member_of (take t l)
+  before = ap member_of (tab-before l ∙ ap (λ (n : ℕ). take n l) (sym e))
 
-pub take-one : (l : Bytes) → 1 < length l → get_or l 0 0 ∷ [] ≡ take 1 l
-take-one [] h = absurd (omega arith)
-take-one (a ∷ l) h = refl
+  pub number-tab : (m : ℕ) → some m ≡ member_of (take t l) → (1 ≤ m) × (m ≤ 64) → Shaped l (Some (record { member = m; start = t + 1 }))
+  number-tab m f k = (before ∙ sym f, k, omega arith, after)
 
-pub take-two : (l : Bytes) → 2 < length l → get_or l 0 0 ∷ get_or l 1 0 ∷ [] ≡ take 2 l
-take-two [] h = absurd (omega arith)
-take-two (a ∷ []) h = absurd (omega arith)
-take-two (a ∷ b ∷ l) h = refl
+  pub other-tab : none ≡ member_of (take t l) → Shaped l None
+  unfolding member_if
+  other-tab f = ap (λ (o : Option Bytes). member_if o (member_of (before_tab l))) after ∙ before ∙ sym f
 
-pub one-shape : (l : Bytes) (t m : ℕ) → t ≡ 1 → t ≡ end_of 9 l 0 → t < length l → m ≡ or_zero (member_of (get_or l 0 0 ∷ [])) → m ≤ 64 → Shaped l (record { member = m; start = 2 })
-one-shape l t m e f h g k =
-    let n : 1 < length l = omega arith in
-    number-tab l 1 m (sym e ∙ f) n (g ∙ ap (λ (x : Bytes). or_zero (member_of x)) (take-one l n)) k
+-- one byte, two bytes, or others
+pub as-one : (x : Bytes) → length x ≡ 1 → member_of (get_or x 0 0 ∷ []) ≡ member_of x
+as-one [] h = absurd (omega arith)
+as-one (a ∷ []) h = refl
+as-one (a ∷ b ∷ x) h = absurd (omega arith)
 
-pub two-shape : (l : Bytes) (t m : ℕ) → t ≡ 2 → t ≡ end_of 9 l 0 → t < length l → m ≡ or_zero (member_of (get_or l 0 0 ∷ get_or l 1 0 ∷ [])) → m ≤ 64 → Shaped l (record { member = m; start = 3 })
-two-shape l t m e f h g k =
-    let n : 2 < length l = omega arith in
-    number-tab l 2 m (sym e ∙ f) n (g ∙ ap (λ (x : Bytes). or_zero (member_of x)) (take-two l n)) k
+pub as-two : (x : Bytes) → length x ≡ 2 → member_of (get_or x 0 0 ∷ get_or x 1 0 ∷ []) ≡ member_of x
+as-two [] h = absurd (omega arith)
+as-two (a ∷ []) h = absurd (omega arith)
+as-two (a ∷ b ∷ []) h = refl
+as-two (a ∷ b ∷ c ∷ x) h = absurd (omega arith)
+
+pub wrong-size : (x : Bytes) → (length x ≡ 1 → ⊥) → (length x ≡ 2 → ⊥) → none ≡ member_of x
+unfolding member_of
+wrong-size [] f g = refl
+wrong-size (a ∷ []) f g = absurd (f refl)
+wrong-size (a ∷ b ∷ []) f g = absurd (g refl)
+wrong-size (a ∷ b ∷ c ∷ x) f g = refl

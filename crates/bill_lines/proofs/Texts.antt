@@ -1,37 +1,26 @@
 -- The text of entries, row by row. Assumes nothing.
 use mathlib.Core.Path.{◌≡◌, refl, sym, ap, ◌∙◌}
-use mathlib.Core.List.{List, [], ◌∷◌, ◌++◌, append_assoc, append-nil}
-use Prim.Native.Nat.{ℕ, zero, suc, ◌+◌, ◌-◌, ◌*◌, ◌≤◌}
+use mathlib.Core.List.{List, ◌++◌, append_assoc, append-nil}
+use Prim.Native.Nat.{ℕ, zero, suc, ◌+◌, ◌*◌, ◌≤◌}
 use native.Mathlib.Omega.{arith}
 use native.Mathlib.Numerals.{add-one}
 use lib.Count.{ones}
-use lib.ListN.{length, get_or, take, drop}
+use lib.ListN.{length, get_or}
 use lib.Seq.{sets}
 use Rattle.standard.specs.Delivery.{Bytes}
 use Rattle.byte_string.proofs.Stores.{wrote-two}
 use Rattle.tsv.specs.Fields.{decimal, field}
 use Rattle.tsv.proofs.Laws.{field-length}
-use Rattle.bill_ledger.proofs.Places.{key-part}
-use Rattle.bill_ledger.specs.Places.{bytes_at, at_most31, text_at, entry_at, entries_from}
+use Rattle.bill_ledger.specs.Places.{text_at, entry_at, entries_from}
 use Rattle.bill_lines.specs.Text.{header, last_text, entry_text, entries_text}
 use Rattle.standard.specs.Tag.{text}
 
 -- a key and a tab have at most 32 bytes
-bytes-length : (ks : Bytes) (at n : ℕ) → length (bytes_at ks at n) ≡ n
-unfolding bytes_at
-bytes-length ks at zero = refl
-bytes-length ks at (suc n) = ap suc (bytes-length ks (suc at) n)
-
-pub key-put : (o o₁ ks : Bytes) (at r i a e m : ℕ) → a ≡ 32 * i + 1 → e ≡ a + m → m ≡ at_most31 (get_or ks (32 * i) 0) → m ≤ 31 → e ≤ length ks
-    → r ≡ at + length (field (take (e - a) (drop a ks)) 9) → o₁ ≡ sets o at (field (take (e - a) (drop a ks)) 9)
+pub key-put : (o o₁ ks k : Bytes) (at r i : ℕ) → k ≡ text_at ks i → length k ≤ 31 → r ≡ at + length (field k 9) → o₁ ≡ sets o at (field k 9)
     → (r ≡ at + length (field (text_at ks i) 9)) × (o₁ ≡ sets o at (field (text_at ks i) 9)) × (r ≤ at + 32)
-unfolding text_at
-key-put o o₁ ks at r i a e m p q n k h f g =
-    let x = key-part ks i a e m p q n h in
-    let w = bytes-length ks (32 * i + 1) (at_most31 (get_or ks (32 * i) 0)) in
-    let v = field-length (bytes_at ks (32 * i + 1) (at_most31 (get_or ks (32 * i) 0))) 9 in
-    let u : r ≡ at + length (field (bytes_at ks (32 * i + 1) (at_most31 (get_or ks (32 * i) 0))) 9) = f ∙ ap (λ (y : Bytes). at + length (field y 9)) x in
-    (u, g ∙ ap (λ (y : Bytes). sets o at (field y 9)) x, omega (arith, u, v, w, n, k))
+key-put o o₁ ks k at r i x h f g =
+    let v = field-length k 9 in
+    (f ∙ ap (λ (y : Bytes). at + length (field y 9)) x, g ∙ ap (λ (y : Bytes). sets o at (field y 9)) x, omega (arith, f, v, h))
 
 -- a key and two numbers, written one after the other
 pub row_written : (o o₁ o₂ o₃ : Bytes) (at p q r : ℕ) (ks : Bytes) (cs : List ℕ) (i m : ℕ) → m ≡ ones (get_or cs (2 * i) 0)

@@ -3,3 +3,4 @@ pub mod Keys
 pub mod State
 pub mod Held
 pub mod Text
+pub mod Over

@@ -1,7 +1,7 @@
 -- A bill that is being made: what stands in the arrays and the counts after some lines. Assumes nothing.
-use Rattle.std.specs.Prelude.{◌≡◌, ◌⊎◌, ℕ, zero, suc, ◌+◌, ◌≤◌, length, take}
+use Rattle.std.specs.Prelude.{◌≡◌, ◌⊎◌, ℕ, ◌+◌, ◌≤◌, length, take, Option, Some, None}
 use mathlib.Core.List.{List, [], ◌++◌, reverse_aux}
-use Rattle.std.proofs.Math.Option.{Option, none, some}
+use Rattle.std.proofs.Math.Option.{Option as Maybe, none, some}
 use Rattle.standard.specs.Identifier.{Tables}
 use Rattle.standard.specs.Delivery.{Bytes}
 use Rattle.bill_rules.specs.Bill.{Usage, usages, refusals, refused_with, bill_of}
@@ -11,12 +11,13 @@ use Rattle.bill_lines.specs.declared.Counts.{Counts}
 use Rattle.bill_lines.specs.declared.line.Used.{Used}
 
 -- what a usage line says: a member and the bytes of its key, or a refused line
-unfoldable pub used_by : ℕ → ℕ → Bytes → Option Usage
-used_by zero n out = none
-used_by (suc m) n out = some (record { member = suc m; key = take n out })
+abbrev pub used_is : Option Used → Bytes → Maybe Usage
+used_is None out = none
+used_is (Some r) out = some (record { member = r.member; key = take r.len out })
 
-unfoldable pub used_is : Used → Bytes → Option Usage
-used_is r out = used_by r.member r.len out
+-- a member of a bill, and a key that has room
+abbrev pub InRange : Used → Type 0
+InRange r = (1 ≤ r.member) × (r.member ≤ 64) × (r.len ≤ 26)
 
 -- counts that a bill can have
 pub record Bounded (c : Counts) : Type 0 where

@@ -10,19 +10,21 @@ pub mod text;
 ghost use Rattle.std.specs.Prelude.{◌≡◌, true, List, [], ◌++◌, ℕ, ◌≤◌, length};
 ghost use Rattle.standard.specs.Delivery.{Bytes};
 ghost use Rattle.standard.specs.Table.{tables_of};
-ghost use Rattle.table.specs.Hints.{Hinted};
 ghost use Rattle.table.specs.Lines.{lines};
 ghost use Rattle.operations.specs.Both.{TestedBoth};
 ghost use Rattle.bill_ledger.specs.Up.{Sized};
 ghost use Rattle.bill_lines.specs.State.{Bounded, only as onlyOf, Going, Good};
 ghost use Rattle.bill_lines.specs.Held.{Held, Usable, Stays, judged_by};
 
+use crate::piece::take_lines;
 use canonical::buffer::buffer;
-use table::hints::{fill_hints, many};
-use table_check::{Verdict, check_likely};
+use operations::tables::{TestedTables, tested};
+use table::hints::{fill_hints, indexed, many};
+use table_check::{Fault, check_likely};
 
 // A bill's refusal (11 to 14 for the tables, 17 or 18), with the place and the table of a table's; the number of its keys,
-// of the lines read and of those refused.
+// of the lines read and of those refused. The numbers are the standard's, and no enum: `only` and `faulted` of specs/ make
+// counts of them.
 #[derive(Clone, Copy)]
 pub struct Counts {
     pub number: u8,
@@ -48,12 +50,12 @@ fn only(number: u8, place: usize, table: u8) -> Counts
 }
 
 // The counts after the check of the tables: a bad one's number, place and table.
-fn judged(v: Verdict) -> Counts
+fn judged(v: Result<(), Fault>) -> Counts
     ensures { result ≡ judged_by v }
 {
     match v {
-        Verdict::Good => only(0, 0, 0),
-        Verdict::Bad(number, place, table) => only(number, place, table),
+        Ok(()) => only(0, 0, 0),
+        Err(fault) => only(fault.number(), fault.place, fault.table_number()),
     }
 }
 
@@ -70,32 +72,17 @@ pub fn start(aliases: &[u8], likely: &[u8]) -> Counts
 pub fn add_hinted(
     c: Counts,
     piece: &[u8],
-    aliases: &[u8],
-    alias_hints: &[u16],
-    likely: &[u8],
-    likely_hints: &[u16],
+    tables: TestedTables,
     keys: &mut [u8],
     counts: &mut [u64],
     out: &mut [u8],
 ) -> Counts
-    requires { let aliases = aliases.now in let likely = likely.now in
-        TestedBoth aliases likely × Hinted aliases alias_hints.now × Hinted likely likely_hints.now × (255 ≤ length out.old)
-        × Usable c keys.old counts.old }
-    ensures { let keys' = keys.exit.now in let counts' = counts.exit.now in let aliases = aliases.entry.now in
-        let likely = likely.entry.now in let keys = keys.entry.now in let counts = counts.entry.now in let piece = piece.entry.now in
+    requires { (255 ≤ length out.old) × Usable c keys.old counts.old }
+    ensures { let keys' = keys.exit.now in let counts' = counts.exit.now in let aliases = tables.entry.aliases.rows.now in
+        let likely = tables.entry.likely.rows.now in let keys = keys.entry.now in let counts = counts.entry.now in let piece = piece.entry.now in
         ((ls : List Bytes) → Held aliases likely ls c keys counts → Held aliases likely (ls ++ lines piece) result keys' counts') × Sized keys' counts' }
 {
-    piece::take_lines(
-        c,
-        piece,
-        aliases,
-        alias_hints,
-        likely,
-        likely_hints,
-        keys,
-        counts,
-        out,
-    )
+    take_lines(c, piece, tables, keys, counts, out)
 }
 
 // Takes the lines of a piece into a bill that is not refused, over tables that passed their check. Their hints are made
@@ -113,34 +100,28 @@ fn add_tested(
         × ((ls : List Bytes) → Going (tables_of aliases.now likely.now []) ls c keys.old counts.old
         → Good (tables_of aliases.now likely.now []) (ls ++ lines piece.now) result keys.new counts.new) }
 {
-    let mut a = many();
-    fill_hints(aliases, &mut a);
-    let mut l = many();
-    fill_hints(likely, &mut l);
+    let mut alias_hints = many();
+    fill_hints(aliases, &mut alias_hints);
+    let mut likely_hints = many();
+    fill_hints(likely, &mut likely_hints);
+    let tables = tested(
+        indexed(aliases, &alias_hints),
+        indexed(likely, &likely_hints),
+    );
     let mut out = buffer();
-    piece::take_lines(c, piece, aliases, &a, likely, &l, keys, counts, &mut out)
+    take_lines(c, piece, tables, keys, counts, &mut out)
 }
 
 // Can a bill with these counts and arrays go on?
 fn is_usable(c: Counts, keys: &[u8], counts: &[u64]) -> bool
     ensures { (result ≡ true → Usable c keys.now counts.now) × (Usable c keys.now counts.now → result ≡ true) }
 {
-    if c.number != 0 {
-        return false;
-    }
-    if keys.len() != 16384 {
-        return false;
-    }
-    if counts.len() != 1024 {
-        return false;
-    }
-    if 512 < c.keys {
-        return false;
-    }
-    if 1000000 < c.lines {
-        return false;
-    }
-    c.refused <= c.lines
+    c.number == 0
+        && keys.len() == 16384
+        && counts.len() == 1024
+        && c.keys <= 512
+        && c.lines <= 1000000
+        && c.refused <= c.lines
 }
 
 // Takes the lines of a piece into a bill. A refused bill stays as it is, and so do counts and arrays that are no bill's.
@@ -160,9 +141,8 @@ pub fn add(
     if !is_usable(c, keys, counts) {
         return c;
     }
-    let v = check_likely(aliases, likely);
-    let Verdict::Good = v else {
-        return judged(v);
-    };
+    if let Err(fault) = check_likely(aliases, likely) {
+        return judged(Err(fault));
+    }
     add_tested(c, piece, aliases, likely, keys, counts)
 }

@@ -1,58 +1,40 @@
 // One usage line, and what it changes of a bill.
 ghost use Rattle.std.specs.Prelude.{◌≡◌, List, [], ◌∷◌, ◌++◌, ◌≤◌, ◌<◌, length, take};
+ghost use Rattle.std.specs.Option.{IfSome};
 ghost use Rattle.standard.specs.Delivery.{Bytes};
-ghost use Rattle.standard.specs.Table.{tables_of};
-ghost use Rattle.table.specs.Hints.{Hinted};
-ghost use Rattle.operations.specs.Both.{TestedBoth};
 ghost use Rattle.bill_rules.specs.Bill.{usage};
 ghost use Rattle.bill_ledger.specs.Places.{entries_from};
-ghost use Rattle.bill_ledger.specs.Up.{Sized, Up, Few, Added};
-ghost use Rattle.bill_lines.specs.State.{used_is, Bounded, one_more, Going, Good};
+ghost use Rattle.bill_ledger.specs.Up.{Sized, Up, Few, Added, count_of};
+ghost use Rattle.bill_lines.specs.State.{used_is, InRange, Bounded, one_more, Going, Good};
+ghost use Rattle.bill_lines.specs.Over.{tables_in};
 
 use crate::key::key_of;
 use crate::shape::shape_of;
 use crate::{Counts, only};
+use operations::tables::TestedTables;
 
-// A member and the length of the key, or member 0 for a refused line.
+// A member and the length of the key.
 #[derive(Clone, Copy)]
 pub struct Used {
     pub member: u8,
     pub len: usize,
 }
 
-// What a line says; its key is written at the front of out.
-fn usage_of(
-    line: &[u8],
-    aliases: &[u8],
-    alias_hints: &[u16],
-    likely: &[u8],
-    likely_hints: &[u16],
-    out: &mut [u8],
-) -> Used
-    requires { let aliases = aliases.now in let likely = likely.now in
-        TestedBoth aliases likely × Hinted aliases alias_hints.now × Hinted likely likely_hints.now × (255 ≤ length out.old) }
-    ensures { let out' = out.new in let aliases = aliases.entry.now in let likely = likely.entry.now in
-        let line = line.entry.now in
-        (used_is result out' ≡ usage (tables_of aliases likely []) line) × (result.member ≤ 64) × (result.len ≤ 26) }
+// What a line says, or none where it is refused; its key is written at the front of out.
+fn usage_of(line: &[u8], tables: TestedTables, out: &mut [u8]) -> Option<Used>
+    requires { 255 ≤ length out.old }
+    ensures { (used_is result out.new ≡ usage (tables_in tables.entry) line.entry.now) × IfSome result InRange }
 {
-    let s = shape_of(line);
-    let member = s.member;
-    let start = s.start;
-    if member == 0 {
-        return Used { member: 0, len: 0 };
-    }
-    let len = key_of(
-        &line[start..],
-        aliases,
-        alias_hints,
-        likely,
-        likely_hints,
-        out,
-    );
-    if len == 0 {
-        return Used { member: 0, len: 0 };
-    }
-    Used { member, len }
+    let Some(shape) = shape_of(line) else {
+        return None;
+    };
+    let Some(len) = key_of(&line[shape.start..], tables, out) else {
+        return None;
+    };
+    Some(Used {
+        member: shape.member,
+        len,
+    })
 }
 
 // The counts after a refused line, or with keys after an accepted one.
@@ -61,63 +43,46 @@ fn counted(c: Counts, keys: usize, refused: usize) -> Counts
     ensures { result ≡ one_more c keys refused }
 {
     Counts {
-        number: c.number,
-        place: c.place,
-        table: c.table,
         keys,
         lines: c.lines + 1,
         refused,
+        ..c
     }
 }
 
 // Adds a usage, whose key stands at the front of out, to the n entries.
-fn add_used(
-    keys: &mut [u8],
-    counts: &mut [u64],
-    n: usize,
-    member: u8,
-    len: usize,
-    out: &[u8],
-) -> usize
-    requires { (n ≤ 512) × Sized keys.old counts.old × (1 ≤ member) × (member ≤ 64) × (len ≤ 26) × (255 ≤ length out.now) }
+fn add_used(keys: &mut [u8], counts: &mut [u64], n: usize, used: Used, out: &[u8]) -> Option<usize>
+    requires { (n ≤ 512) × Sized keys.old counts.old × InRange used × (255 ≤ length out.now) }
     ensures { let keys' = keys.exit.now in let counts' = counts.exit.now in let keys = keys.entry.now in
-        let counts = counts.entry.now in let out = out.entry.now in let held = entries_from keys counts 0 n in
-        Sized keys' counts' × (Up held → Few held → Added (record { member = member; key = take len out }) held keys' counts' result) }
+        let counts = counts.entry.now in let key = take used.len out.entry.now in let held = entries_from keys counts 0 n in
+        Sized keys' counts' × IfSome result (λ r. r ≤ 512)
+        × (Up held → Few held → Added (record { member = used.member; key = key }) held keys' counts' (count_of result)) }
 {
-    bill_ledger::add(keys, counts, n, member, &out[..len])
+    bill_ledger::add(keys, counts, n, used.member, &out[..used.len])
 }
 
 // Takes one line into a bill that is not refused.
 pub(crate) fn take_line(
     c: Counts,
     line: &[u8],
-    aliases: &[u8],
-    alias_hints: &[u16],
-    likely: &[u8],
-    likely_hints: &[u16],
+    tables: TestedTables,
     keys: &mut [u8],
     counts: &mut [u64],
     out: &mut [u8],
 ) -> Counts
-    requires { let aliases = aliases.now in let likely = likely.now in
-        TestedBoth aliases likely × Hinted aliases alias_hints.now × Hinted likely likely_hints.now × (255 ≤ length out.old) × Bounded c
-        × Sized keys.old counts.old }
-    ensures { Bounded result × Sized keys.new counts.new
-        × ((ls : List Bytes) → Going (tables_of aliases.now likely.now []) ls c keys.old counts.old
-        → Good (tables_of aliases.now likely.now []) (ls ++ (line.now ∷ [])) result keys.new counts.new) }
+    requires { (255 ≤ length out.old) × Bounded c × Sized keys.old counts.old }
+    ensures { let T = tables_in tables.entry in
+        Bounded result × Sized keys.new counts.new
+        × ((ls : List Bytes) → Going T ls c keys.old counts.old → Good T (ls ++ (line.now ∷ [])) result keys.new counts.new) }
 {
     if 1000000 <= c.lines {
         return only(18, 0, 0);
     }
-    let u = usage_of(line, aliases, alias_hints, likely, likely_hints, out);
-    let member = u.member;
-    let len = u.len;
-    if member == 0 {
+    let Some(used) = usage_of(line, tables, out) else {
         return counted(c, c.keys, c.refused + 1);
+    };
+    match add_used(keys, counts, c.keys, used, out) {
+        Some(n) => counted(c, n, c.refused),
+        None => only(17, 0, 0),
     }
-    let n = add_used(keys, counts, c.keys, member, len, out);
-    if 512 < n {
-        return only(17, 0, 0);
-    }
-    counted(c, n, c.refused)
 }

@@ -1,69 +1,64 @@
 // A usage line: a member number, a tab and an identifier.
 ghost use Rattle.std.specs.Prelude.{◌≡◌, [], ◌∷◌, ◌≤◌};
+ghost use Rattle.std.specs.Option.{IfSome};
 ghost use Rattle.bill_rules.specs.Bill.{member_of};
-ghost use Rattle.bill_lines.specs.Shapes.{or_zero, Shaped};
+ghost use Rattle.bill_lines.specs.Shapes.{member_is, InMembers, Shaped};
 
+use byte_string::end_of;
 use subtag::is_digit;
 
-// The member, 0 where the line has no number, 1 to 64, or no tab; and where its identifier starts.
+// The member of a line, 1 to 64, and where its identifier starts.
 #[derive(Clone, Copy)]
 pub struct Shape {
     pub member: u8,
     pub start: usize,
 }
 
-// The member that one digit names, or 0.
-pub fn one_digit(d: u8) -> u8
-    ensures { (result ≡ or_zero (member_of (d ∷ []))) × (result ≤ 64) }
+// The member that one digit names.
+pub fn one_digit(d: u8) -> Option<u8>
+    ensures { (member_is result ≡ member_of (d ∷ [])) × IfSome result InMembers }
 {
-    if is_digit(d) {
-        return d - b'0';
+    if is_digit(d) && d != b'0' {
+        Some(d - b'0')
+    } else {
+        None
     }
-    0
 }
 
-// The member that two digits name, or 0.
-pub fn two_digits(d: u8, e: u8) -> u8
-    ensures { (result ≡ or_zero (member_of (d ∷ e ∷ []))) × (result ≤ 64) }
+// The member that two digits name.
+pub fn two_digits(d: u8, e: u8) -> Option<u8>
+    ensures { (member_is result ≡ member_of (d ∷ e ∷ [])) × IfSome result InMembers }
 {
-    let tens = one_digit(d);
-    if tens == 0 {
-        return 0;
-    }
+    let tens = one_digit(d)?;
     if !is_digit(e) {
-        return 0;
+        return None;
     }
     let n = tens * 10 + (e - b'0');
-    if 64 < n {
-        return 0;
-    }
-    n
+    if n <= 64 { Some(n) } else { None }
 }
 
-pub(crate) fn shape_of(line: &[u8]) -> Shape
+// The member that a number names.
+fn member_named(number: &[u8]) -> Option<u8>
+    ensures { (member_is result ≡ member_of number.now) × IfSome result InMembers }
+{
+    match number {
+        [d] => one_digit(*d),
+        [d, e] => two_digits(*d, *e),
+        _ => None,
+    }
+}
+
+// The member and the identifier of a line; none where it has no tab, or no member before it.
+pub(crate) fn shape_of(line: &[u8]) -> Option<Shape>
     ensures { Shaped line.now result }
 {
-    let tab = byte_string::end_of(line, b'\t', 0);
+    let tab = end_of(line, b'\t', 0);
     if line.len() <= tab {
-        return Shape {
-            member: 0,
-            start: 0,
-        };
+        return None;
     }
-    if tab == 1 {
-        return Shape {
-            member: one_digit(line[0]),
-            start: 2,
-        };
-    }
-    if tab == 2 {
-        return Shape {
-            member: two_digits(line[0], line[1]),
-            start: 3,
-        };
-    }
-    Shape {
-        member: 0,
-        start: 0,
-    }
+    let member = member_named(&line[..tab])?;
+    Some(Shape {
+        member,
+        start: tab + 1,
+    })
 }

@@ -10,13 +10,14 @@ ghost use Rattle.bill_ledger.specs.Up.{Sized};
 ghost use Rattle.bill_lines.specs.Text.{header, last_text, entry_text, entries_text, counts_text, written_text};
 
 use crate::Counts;
+use bill_ledger::key_at;
 use tsv::{put, put_number, put_table};
 
 // How many members have a mark.
 fn members_of(marks: u64) -> usize
     ensures { result ≡ ones marks }
 {
-    u64::count_ones(marks) as usize
+    marks.count_ones() as usize
 }
 
 // Writes the i-th key and a tab at the place at, and gives the next place.
@@ -24,9 +25,7 @@ fn put_key(keys: &[u8], i: usize, out: &mut [u8], at: usize) -> usize
     requires { (i < 512) × (length keys.now ≡ 16384) × (at + 32 ≤ length out.old) }
     ensures { WritesWithin (at + 32) out.old at (field (text_at keys.now i) 9) result out.new }
 {
-    let a = 32 * i + 1;
-    let e = a + bill_ledger::key_len(keys, i);
-    put(&keys[a..e], b'\t', out, at)
+    put(key_at(keys, i), b'\t', out, at)
 }
 
 // Writes the row of the i-th entry at the place at, and gives the next place.
@@ -48,11 +47,9 @@ fn put_rows(keys: &[u8], counts: &[u64], n: usize, out: &mut [u8], at: usize) ->
     ensures { let out' = out.exit.now in let out = out.entry.now in let keys = keys.entry.now in let counts = counts.entry.now in
         WritesWithin (at + 40960) out at (entries_text (entries_from keys counts 0 n)) result out' }
 {
-    let mut i = 0;
     let mut end = at;
-    while i < n {
+    for i in 0..n {
         end = put_row(keys, counts, i, out, end);
-        i += 1;
     }
     end
 }
@@ -109,17 +106,10 @@ pub fn write(c: Counts, keys: &[u8], counts: &[u64], out: &mut [u8]) -> usize
         × (out.new ≡ sets out.old 0 (written_text c keys.now counts.now (length out.old)))
         × (result ≤ length out.old) }
 {
-    if out.len() < 65536 {
-        return 0;
+    let fits = 65536 <= out.len();
+    if fits && keys.len() == 16384 && counts.len() == 1024 && c.keys <= 512 {
+        put_text(c, keys, counts, out)
+    } else {
+        0
     }
-    if keys.len() != 16384 {
-        return 0;
-    }
-    if counts.len() != 1024 {
-        return 0;
-    }
-    if 512 < c.keys {
-        return 0;
-    }
-    put_text(c, keys, counts, out)
 }

@@ -1,53 +1,46 @@
--- The order of two byte strings, compared from the front.
+-- The order of two byte strings and their equality, as std's slices have them.
 -- Assumes nothing.
-use mathlib.Core.Path.{◌≡◌, refl, sym, ap, ◌∙◌}
-use mathlib.Core.List.{List}
-use Prim.Native.Nat.{ℕ, suc, ◌+◌, ◌≤◌, ◌<◌, compare, Ordering}
-use native.Mathlib.Numerals.{add-one}
-use native.Mathlib.Omega.{arith}
+use mathlib.Core.Path.{◌≡◌, refl, sym, ap, ap₂, ◌∙◌}
+use mathlib.Core.List.{List, [], ◌∷◌}
+use Prim.Native.Nat.{ℕ, ◌<◌, compare}
 use lib.Dec.{compare_is_eq}
-use lib.ListN.{length, get_or, drop, drop_of_length-le}
-use lib.Seq.{drop-cons}
-use Rattle.byte_string.specs.declared.Order.{Order}
+use lib.Pointwise.{pointwise}
+use Rattle.std.specs.Prelude.{nat_eq}
+use Rattle.std.specs.declared.cmp.Ordering.{Ordering}
+use Rattle.std.specs.declared.cmp.Ordering.TheVariants.{Less, Equal, Greater}
+use Rattle.std.specs.Ordering.{MatchOrdering, nat_cmp, ordering_then, is_eq}
+use Rattle.std.specs.Cmp.Lexicographic.{slice_cmp, texts_ties}
+use Rattle.std.proofs.lemmas.Cmp.{ranked}
 use Rattle.byte_string.specs.Strings.{order_of}
 use Rattle.standard.specs.Tag.{and_then, order, same}
 use Rattle.standard.proofs.General.{compare-less, compare-more, compare-equal}
 
--- the order of what is left of both from i on
-unfoldable pub order_from : List ℕ → List ℕ → ℕ → Ordering
-order_from a b i = order (drop i a) (drop i b)
+-- of two numbers
+of_numbers : (x y : ℕ) → order_of (nat_cmp x y) ≡ compare x y
+of_numbers x y = go (nat_cmp x y) (ranked x y (nat_cmp x y) refl)
+  where
+    go : (o : Ordering) → MatchOrdering o (x < y) (x ≡ y) (y < x) → order_of o ≡ compare x y
+    go Less h = sym (compare-less x y h)
+    go Equal h = sym (compare-equal x y h)
+    go Greater h = sym (compare-more x y h)
 
-pub order-start : (a b : List ℕ) → order a b ≡ order_from a b 0
-unfolding order_from
-order-start a b = refl
+of_first : (o p : Ordering) → order_of (ordering_then o p) ≡ and_then (order_of o) (order_of p)
+of_first Less p = refl
+of_first Equal p = refl
+of_first Greater p = refl
 
-order-at : (a b : List ℕ) (i : ℕ) → i < length a → i < length b → order_from a b i ≡ and_then (compare (get_or a i 0) (get_or b i 0)) (order_from a b (suc i))
-unfolding order order_from
-order-at a b i h k = rw (drop-cons a i 0 h, drop-cons b i 0 k)
+pub of-slices : (a b : List ℕ) → order_of (slice_cmp nat_cmp a b) ≡ order a b
+unfolding order
+of-slices [] [] = refl
+of-slices [] (y ∷ b) = refl
+of-slices (x ∷ a) [] = refl
+of-slices (x ∷ a) (y ∷ b) = of_first (nat_cmp x y) (slice_cmp nat_cmp a b) ∙ ap₂ and_then (of_numbers x y) (of-slices a b)
 
-pub order-less : (a b : List ℕ) (i : ℕ) → i < length a → i < length b → get_or a i 0 < get_or b i 0 → order_from a b i ≡ Ordering.lt
-order-less a b i h k l = rw (order-at a b i h k, compare-less _ _ l)
+equal_is : (o : Ordering) → is_eq o ≡ compare_is_eq (order_of o)
+equal_is Less = refl
+equal_is Equal = refl
+equal_is Greater = refl
 
-pub order-greater : (a b : List ℕ) (i : ℕ) → i < length a → i < length b → get_or b i 0 < get_or a i 0 → order_from a b i ≡ Ordering.gt
-order-greater a b i h k l = rw (order-at a b i h k, compare-more _ _ l)
-
-pub order_same : (a b : List ℕ) (i : ℕ) → i < length a → i < length b → get_or b i 0 ≤ get_or a i 0 → get_or a i 0 ≤ get_or b i 0
-    → order_from a b i ≡ order_from a b (i + 1)
-order_same a b i h k l m = rw (order-at a b i h k, compare-equal (get_or a i 0) (get_or b i 0) (omega arith), add-one)
-
-pub order-short : (a b : List ℕ) (i : ℕ) → i < length a → length b ≤ i → order_from a b i ≡ Ordering.gt
-unfolding order order_from
-order-short a b i h k = rw (drop-cons a i 0 h, drop_of_length-le b k)
-
-pub order-long : (a b : List ℕ) (i : ℕ) → length a ≤ i → i < length b → order_from a b i ≡ Ordering.lt
-unfolding order order_from
-order-long a b i h k = rw (drop_of_length-le a h, drop-cons b i 0 k)
-
-pub order-equal : (a b : List ℕ) (i : ℕ) → length a ≤ i → length b ≤ i → order_from a b i ≡ Ordering.eq
-unfolding order order_from
-order-equal a b i h k = rw (drop_of_length-le a h, drop_of_length-le b k)
-
--- equal byte strings, by the answer
-pub same-order : (a b : List ℕ) (r : Order) (o : Ordering) → order_of r ≡ order a b → order_of r ≡ o → compare_is_eq o ≡ same a b
+pub of-equal : (a b : List ℕ) → pointwise nat_eq a b ≡ same a b
 unfolding same
-same-order a b r o e f = ap compare_is_eq (sym f ∙ e)
+of-equal a b = texts_ties a b ∙ equal_is (slice_cmp nat_cmp a b) ∙ ap compare_is_eq (of-slices a b)

@@ -1,12 +1,12 @@
 -- Laws of bytes written one behind the other: runs of stores. Assumes nothing.
 use mathlib.Core.Path.{◌≡◌, refl, sym, ap, ap₂, ◌∙◌}
-use mathlib.Core.List.{List, [], ◌∷◌, ◌++◌, map}
+use mathlib.Core.List.{List, [], ◌∷◌, ◌++◌, map, append_assoc}
 use Prim.Native.Nat.{ℕ, suc, ◌+◌, ◌-◌, ◌≤◌, ◌<◌}
 use native.Mathlib.Nat.{add-zero}
 use native.Mathlib.Numerals.{add-one}
 use native.Mathlib.Omega.{arith}
 use lib.ListN.{length, drop, get_or, take, set, length-map, length-append, length-drop}
-use lib.Seq.{sets, sets-eq, take_at, take-suc, take_all, length-take-le, get_or-set_other}
+use lib.Seq.{sets, sets-eq, drop-drop, take_at, take-suc, take_all, length-take-le, get_or-set_other}
 
 pub sets-append : (l : List ℕ) (at : ℕ) (x y : List ℕ) → sets l at (x ++ y) ≡ sets (sets l at x) (at + length x) y
 sets-append l at [] y = rw add-zero
@@ -35,6 +35,11 @@ plain-next l o at x i b e d h =
     let m : take (i + 1) x ≡ take i x ++ (get_or x i 0 ∷ []) = rw (add-one, take-suc x i 0) in
     ap₂ (λ (q : List ℕ) (c : ℕ). set q (at + i) c) e d
     ∙ sym (ap (sets l at) m ∙ sets-append l at (take i x) (get_or x i 0 ∷ []) ∙ ap (λ (k : ℕ). set (sets l at (take i x)) (at + k) (get_or x i 0)) n)
+
+-- a text copied into a part of its length, as code does it
+pub copied : (l x y : List ℕ) (at n : ℕ) → y ≡ x → n ≡ length x → at + length x ≤ length l → take at l ++ (y ++ drop n (drop at l)) ≡ sets l at x
+copied l x y at n e f h =
+    rw (e, f) (ap (λ (r : List ℕ). take at l ++ (x ++ r)) (drop-drop (length x) at l) ∙ sym (append_assoc (take at l) x (drop (at + length x) l)) ∙ sym (sets-eq x l at h))
 
 pub plain-all : (l : List ℕ) (at : ℕ) (x : List ℕ) (i : ℕ) → length x ≤ i → sets l at (take i x) ≡ sets l at x
 plain-all l at x i h = ap (sets l at) (take_all i x h)

@@ -2,12 +2,12 @@
 -- Assumes nothing.
 use Rattle.std.specs.Prelude.{cond, [], ◌∷◌, List, ◌≡◌, length, eqb}
 use Prim.Native.Nat.{ℕ, ◌+◌, ◌≤◌, zero, suc, Ordering}
-use Rattle.byte_string.specs.declared.Order.{Order}
-use Rattle.byte_string.specs.declared.Order.TheVariants.{Less, Equal, Greater}
+use Rattle.std.specs.declared.cmp.Ordering.{Ordering as Answer}
+use Rattle.std.specs.declared.cmp.Ordering.TheVariants.{Less, Equal, Greater}
 use Rattle.std.proofs.lemmas.List.Edits.{sets}
 
 -- the standard's order that an answer stands for
-abbrev pub order_of : Order → Ordering
+abbrev pub order_of : Answer → Ordering
 order_of Less = Ordering.lt
 order_of Equal = Ordering.eq
 order_of Greater = Ordering.gt

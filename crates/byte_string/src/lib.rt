@@ -5,60 +5,30 @@ ghost use Rattle.std.specs.Prelude.{◌≡◌, ◌+◌, ◌≤◌, ◌<◌, leng
 ghost use Rattle.standard.specs.Tag.{order, same as sameTag};
 ghost use Rattle.byte_string.specs.Strings.{order_of, end_of, Writes};
 
+use std::cmp::Ordering;
+
 // Writes src at the place at, and gives the next place.
 pub fn put(src: &[u8], out: &mut [u8], at: usize) -> usize
     requires { at + length src.now ≤ length out.old }
     ensures { Writes out.old at src.now result out.new }
 {
-    let mut i = 0;
-    while i < src.len() {
-        out[at + i] = src[i];
-        i += 1;
-    }
-    at + i
+    let end = at + src.len();
+    out[at..end].copy_from_slice(src);
+    end
 }
 
 // Are the two byte strings equal?
 pub fn same(a: &[u8], b: &[u8]) -> bool
     ensures { result ≡ sameTag a.now b.now }
 {
-    let o = compare(a, b);
-    match o {
-        Order::Less => false,
-        Order::Equal => true,
-        Order::Greater => false,
-    }
-}
-
-// How two byte strings compare.
-#[derive(Clone, Copy)]
-pub enum Order {
-    Less,
-    Equal,
-    Greater,
+    a == b
 }
 
 // a against b, by unsigned bytes from the front.
-pub fn compare(a: &[u8], b: &[u8]) -> Order
+pub fn compare(a: &[u8], b: &[u8]) -> Ordering
     ensures { order_of result ≡ order a.now b.now }
 {
-    let mut i = 0;
-    while i < a.len() {
-        if b.len() <= i {
-            return Order::Greater;
-        }
-        if a[i] < b[i] {
-            return Order::Less;
-        }
-        if b[i] < a[i] {
-            return Order::Greater;
-        }
-        i += 1;
-    }
-    if i < b.len() {
-        return Order::Less;
-    }
-    Order::Equal
+    a.cmp(b)
 }
 
 // The index of the first byte b at or after `from`, or the length.
@@ -71,7 +41,7 @@ pub fn end_of(s: &[u8], b: u8, from: usize) -> usize
     }
     let last = n - 1;
     let mut i = from;
-    // two bytes a round: half as many ends of rounds to test
+    // by hand, and not by `position`: two bytes a round, so half as many ends of rounds to test on a hot path
     while i < last {
         if s[i] == b {
             return i;

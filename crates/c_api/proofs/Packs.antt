@@ -3,8 +3,10 @@ use mathlib.Core.Path.{◌≡◌, sym, ap, ◌∙◌, subst}
 use Prim.Native.Nat.{ℕ, ◌+◌, ◌*◌, ◌/◌, ◌%◌, ◌<◌}
 use native.Mathlib.Omega.{arith}
 use Rattle.standard.specs.Delivery.{Bytes, Made, given}
-use Rattle.operations.specs.declared.delivery.Answer.{Answer}
-use Rattle.operations.specs.Answer.{answer_of}
+use Rattle.std.specs.Prelude.{Result}
+use Rattle.operations.specs.declared.delivery.Done.{Done}
+use Rattle.operations.specs.declared.delivery.Refusal.{Refusal}
+use Rattle.operations.specs.Answer.{answer_of, answer_by, given_is}
 use Rattle.c_api.specs.Packed.{packed, unpacked}
 use Rattle.c_api.proofs.Sizes.{Fitting, Small, given-fitting}
 
@@ -52,8 +54,9 @@ unpack n t p l s out hn ht hp hl hs =
     let es : r / 72057594037927936 ≡ s = ap (λ (q : ℕ). q / 72057594037927936) e₄ ∙ high56 (n + t * 256 + p * 65536 + l * 4294967296) s (omega arith) in
     λ j. record { number = en j; place = ep j; table = et j; len = el j; steps = es j; output = out }
 
-pub unpacks : (m : Made) (a : Answer) (r : ℕ) (out out' : Bytes) → Small m → r ≡ packed a → answer_of a out' ≡ given m out → unpacked r out' ≡ given m out
-unfolding packed answer_of
+pub unpacks : (m : Made) (a : Result Done Refusal) (r : ℕ) (out out' : Bytes) → Small m → r ≡ packed (answer_by a) → given_is a out' ≡ given m out → unpacked r out' ≡ given m out
+unfolding packed given_is answer_of
 unpacks m a r out out' s e f =
-    let h : Fitting (answer_of a out') = subst Fitting (sym f) (given-fitting m out s) in
-    ap (λ (n : ℕ). unpacked n out') e ∙ (unpack a.number a.table a.place a.len a.steps out' h.number h.table h.place h.len h.steps ∙ f)
+    let h : Fitting (given_is a out') = subst Fitting (sym f) (given-fitting m out s) in
+    let b = answer_by a in
+    ap (λ (n : ℕ). unpacked n out') e ∙ (unpack b.number b.table b.place b.len b.steps out' h.number h.table h.place h.len h.steps ∙ f)

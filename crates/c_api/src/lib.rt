@@ -2,12 +2,13 @@
 // 0 to 7 the number, 8 to 15 the table, 16 to 31 the place, 32 to 55 the length, 56 to 63 the steps.
 #![tactic(auto)]
 
-ghost use Rattle.std.specs.Prelude.{◌≡◌, ◌<◌};
+ghost use Rattle.std.specs.Prelude.{◌≡◌};
 ghost use Rattle.standard.specs.Delivery.{given};
 ghost use Rattle.standard.specs.Make.{canonicalise_made, maximise_made, minimise_made, list_made};
+ghost use Rattle.operations.specs.Answer.{answer_by};
 ghost use Rattle.c_api.specs.Packed.{packed, unpacked};
 
-use operations::delivery::Answer;
+use operations::delivery::{Answer, Done, Refusal};
 
 // Canonicalises an identifier over a table of aliases.
 pub fn altazhbey_canonicalise(id: &[u8], aliases: &[u8], out: &mut [u8]) -> u64
@@ -37,18 +38,13 @@ pub fn altazhbey_chain(id: &[u8], aliases: &[u8], parents: &[u8], out: &mut [u8]
     pack(altazhbey::chain(id, aliases, parents, out))
 }
 
-fn wide(b: u8) -> u64
-    ensures { (result ≡ b) × (result < 256) }
+// What an operation gave back, as one number. Every answer of the four fits, so that nothing is cut off.
+pub fn pack(made: Result<Done, Refusal>) -> u64
+    ensures { result ≡ packed (answer_by made) }
 {
-    b as u64
-}
-
-// An answer as one number. Every answer of the four fits, so that nothing is cut off.
-pub fn pack(a: Answer) -> u64
-    ensures { result ≡ packed a }
-{
-    let number = wide(a.number);
-    let table = wide(a.table);
+    let a = Answer::from(made);
+    let number = u64::from(a.number);
+    let table = u64::from(a.table);
     let place = (a.place % 65536) as u64;
     let len = (a.len % 16777216) as u64;
     let steps = (a.steps % 256) as u64;

@@ -1,14 +1,13 @@
 -- Laws of counted hyphens. Assumes nothing.
 use mathlib.Core.Path.{◌≡◌, refl, sym, ap, ◌∙◌}
-use mathlib.Core.Bool.{Bool, true, false, ◌||◌}
+use mathlib.Core.Bool.{Bool, true, false, cond, ◌||◌}
 use mathlib.Core.List.{List, [], ◌∷◌, ◌++◌}
-use Prim.Native.Nat.{ℕ, ◌+◌, ◌≤◌, ◌<◌}
-use native.Mathlib.Numerals.{add-one}
+use Prim.Native.Nat.{ℕ, ◌+◌}
 use native.Mathlib.Omega.{arith}
 use lib.Dec.{eqb}
-use lib.ListN.{length, get_or, drop, drop_of_length-le}
-use lib.Seq.{drop-cons}
+use lib.ListN.{length}
 use borrow.Author.Tests.{eq-eqb, ne_eqb}
+use Rattle.std.specs.List.{filter}
 use Rattle.standard.specs.Tag.{Tag}
 use Rattle.standard.specs.Grammar.{separator}
 use Rattle.standard.proofs.General.{clash}
@@ -24,13 +23,15 @@ pub hyphen-no : (b : ℕ) → (b ≡ 45 → ⊥) → 0 ≡ hyphen_of b
 unfolding hyphen_of
 hyphen-no b e = rw (ne_eqb b 45 e)
 
-pub hyphens-more : (s : List ℕ) (i : ℕ) → i < length s → hyphens (drop i s) ≡ hyphen_of (get_or s i 0) + hyphens (drop (i + 1) s)
-unfolding hyphens
-hyphens-more s i h = rw (add-one, drop-cons s i 0 h)
-
-pub hyphens-end : (s : List ℕ) (i : ℕ) → length s ≤ i → hyphens (drop i s) ≡ 0
-unfolding hyphens
-hyphens-end s i h = ap hyphens (drop_of_length-le s h)
+-- the code's count
+pub hyphens-filter : (s : List ℕ) → length (filter (λ b. eqb b 45) s) ≡ hyphens s
+unfolding hyphens hyphen_of
+hyphens-filter [] = refl
+hyphens-filter (b ∷ s) = go (eqb b 45) (hyphens-filter s)
+  where
+    go : (r : Bool) → length (filter (λ b. eqb b 45) s) ≡ hyphens s → length (cond r (b ∷ filter (λ b. eqb b 45) s) (filter (λ b. eqb b 45) s)) ≡ cond r 1 0 + hyphens s
+    go true e = omega arith
+    go false e = omega arith
 
 apart : (b : ℕ) → separator b ≡ false → b ≡ 45 → ⊥
 unfolding separator

@@ -1,5 +1,5 @@
 -- Laws of the places of script and region. Assumes nothing.
-use mathlib.Core.Path.{◌≡◌, ap}
+use mathlib.Core.Path.{◌≡◌, ap₂}
 use mathlib.Core.List.{List, map}
 use Prim.Native.Nat.{ℕ, ◌+◌, ◌-◌, ◌≤◌, ◌<◌}
 use native.Mathlib.Omega.{arith}
@@ -29,7 +29,8 @@ start-later l s h = rw (ne_eqb l 0 h)
 pub slice-small : (x : List ℕ) (a b m : ℕ) → b - a ≤ m → length (take (b - a) (drop a x)) ≤ m
 slice-small x a b m h = omega (arith, length-take (b - a) (drop a x))
 
-pub part-is : (A name x w : List ℕ) (count start end from to f : ℕ) → f ≡ after_separator from to
-    → aliased_part A name (pick (cased count (map normal_byte (take (end - start) (drop start x)))) (take (to - f) (drop f w))) ≡ part_bytes A name count x start end w from to
+pub part-is : (A name x w : List ℕ) (count start end from to g f : ℕ) → g ≡ start → f ≡ after_separator from to
+    → aliased_part A name (pick (cased count (map normal_byte (take (end - g) (drop g x)))) (take (to - f) (drop f w))) ≡ part_bytes A name count x start end w from to
 unfolding part_bytes
-part-is A name x w count start end from to f e = ap (λ (b : ℕ). aliased_part A name (pick (cased count (map normal_byte (take (end - start) (drop start x)))) (take (to - b) (drop b w)))) e
+part-is A name x w count start end from to g f d e =
+    ap₂ (λ (a b : ℕ). aliased_part A name (pick (cased count (map normal_byte (take (end - a) (drop a x)))) (take (to - b) (drop b w)))) d e

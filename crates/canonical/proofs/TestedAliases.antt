@@ -9,8 +9,8 @@ use Rattle.standard.proofs.Checks.{in_table-none, tested-none, AllClear, Clear}
 use Rattle.row_shapes.specs.declared.Table.TheVariants.{Aliases}
 use Rattle.row_shapes.specs.Rows.{kind_is}
 use Rattle.row_shapes.proofs.Sorted as sorted-rows
-use Rattle.table.specs.Hints.{Hinted}
-use Rattle.canonical.specs.Tested.{Tested, TestedWith}
+use Rattle.table.specs.Hints.{Hinted, Indexed}
+use Rattle.canonical.specs.Tested.{Tested}
 
 -- Aliases that passed the check ascend.
 pub tested : (A : List ℕ) → check to_canonicalise A [] [] ≡ none → Tested A
@@ -19,5 +19,6 @@ tested A e =
     let h = tested-none _ (in_use to_canonicalise A [] []) e in
     record { passes = e; sorted = sorted-rows.sorted Aliases A (in_table-none _ _ h.1.0.0) }
 
-pub tested-with : (A hints : List ℕ) → check to_canonicalise A [] [] ≡ none → Hinted A hints → TestedWith A hints
-tested-with A hints e h = record { passes = e; indexed = record { sorted = (tested A e).sorted; hinted = h } }
+-- and with their hints are indexed
+pub indexed : (A hints : List ℕ) → check to_canonicalise A [] [] ≡ none → Hinted A hints → Indexed A hints
+indexed A hints e h = record { sorted = (tested A e).sorted; hinted = h }

@@ -11,7 +11,7 @@ use lib.ListN.{length, take, drop, length-append, length-map}
 use lib.Seq.{drop-drop, take_at, drop_at}
 use borrow.Author.Tests.{leb-true, ne_eqb}
 use Rattle.standard.specs.Tag.{Tag, pick}
-use Rattle.standard.specs.Grammar.{upper_byte, small, every, title, upper, Size, size0, size1, size2, size3, size4, size5to8, size_over8, size_of, language_size, is_language, a_script, a_region, kind, kind_of}
+use Rattle.standard.specs.Grammar.{upper_byte, small, every, title, upper, Size, size0, size1, size2, size3, size4, size5to8, size_over8, size_of, language_size, is_language, a_script, a_region, kind_of}
 use Rattle.standard.specs.Identifier.{Three, three, language_alias}
 use Rattle.standard.specs.Reading.{optional, joined}
 use Rattle.standard.specs.Table.{lookup, rows, parse, print_three, language_key, parsed, tables_of, check, to_canonicalise}

@@ -1,13 +1,11 @@
 -- What canonicalising an identifier over tested tables gives: the form's bytes and where its parts end, or a refusal.
 -- Assumes nothing.
-use Rattle.std.specs.Prelude.{◌≡◌, cond, List, [], ◌∷◌, ℕ, ◌+◌, ◌≤◌, eqb, length, take}
+use Rattle.std.specs.Prelude.{cond, List, [], ◌∷◌, ℕ, ◌+◌, ◌≤◌, eqb, length, take, Result, Ok, Err}
 use Rattle.standard.specs.Grammar.{flat}
 use Rattle.standard.specs.Identifier.{Identifier, Tables, Answer, done, refused, canonical, canonical_form, part, parts, printed_length}
 use Rattle.standard.specs.Reading.{Read, good, bad, read, print, split, identifier_of, Fault}
 use Rattle.standard.specs.Table.{tables_of}
 use Rattle.canonical.specs.declared.form.Form.{Form}
-use Rattle.canonical.specs.declared.form.Canon.{Canon}
-use Rattle.canonical.specs.declared.form.Canon.TheVariants.{Formed, Refused}
 use Rattle.canonical.specs.declared.form.NoForm.{NoForm}
 use Rattle.canonical.specs.declared.form.NoForm.TheVariants.{Unread, Overlong}
 use Rattle.reader.specs.Parts.{fault_is}
@@ -45,9 +43,9 @@ no_form_is (Unread r) = fault_is r
 no_form_is Overlong = record { number = 9; place = 0 }
 
 -- what each case of the answer stands for, with the buffer that was lent
-unfoldable pub outcome_of : Canon → List ℕ → Outcome
-outcome_of (Formed f) out = form f (take f.len out)
-outcome_of (Refused r) out = refusal (no_form_is r).number (no_form_is r).place
+unfoldable pub outcome_of : Result Form NoForm → List ℕ → Outcome
+outcome_of (Ok f) out = form f (take f.len out)
+outcome_of (Err r) out = refusal (no_form_is r).number (no_form_is r).place
 
 -- what canonicalising has to give
 unfoldable pub formed : Answer → Outcome
@@ -67,12 +65,7 @@ outcome A x = canonical_of (tables_of A [] []) (read x)
 unfoldable pub accepted : List ℕ → List ℕ → Identifier
 accepted A x = canonical_form (tables_of A [] []) (identifier_of (split x))
 
--- the answer is a refusal
-pub record Refuses (c : Canon) : Type 0 where
-  pub refusal : NoForm
-  pub is : c ≡ Refused refusal
-
 -- a form's bytes are within the lent buffer
-unfoldable pub FormFits : Canon → Type 0
-FormFits (Formed f) = f.len ≤ 255
-FormFits (Refused r) = Unit {0}
+unfoldable pub FormFits : Result Form NoForm → Type 0
+FormFits (Ok f) = f.len ≤ 255
+FormFits (Err r) = Unit {0}

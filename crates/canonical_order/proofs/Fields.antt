@@ -11,16 +11,16 @@ use Rattle.standard.specs.Tag.{Tag, sort_by, itself, head_tag}
 use Rattle.standard.specs.Grammar.{Groups, with_tag, grouped, flat, only, others, is_variant, is_field_key, arrange_part, arrange_fields}
 use Rattle.standard.specs.Reading.{split, after_first}
 use Rattle.subtag.specs.declared.Subtag.{Subtag}
-use Rattle.canonical_order.specs.declared.section.What.TheVariants.{Field, Variant}
 use Rattle.subtag.specs.Bytes.{normal_byte}
 use Rattle.subtag.specs.Subtags.{subtag_of}
+use Rattle.subtag.specs.Kinds.{field_from}
 use Rattle.subtag.specs.Sections.{tags_of, led, Led, Plain}
-use Rattle.canonical_order.specs.Section.{is_head, sorted_tags, sorted_bytes, tag_test, place_of, every_tag, PartOk, key_or_value, FieldsOk}
+use Rattle.canonical_order.specs.Section.{is_head, sorted_tags, sorted_bytes, of_variant, place_of, every_tag, PartOk, key_or_value, FieldsOk}
 use Rattle.canonical_order.proofs.Picks.{Stepped, stepped}
 use Rattle.canonical_order.proofs.Walk.{tags-end, section-bytes}
 use Rattle.canonical_order.proofs.Pending.{led-append, length-led, grouped-all}
 use Rattle.canonical_order.proofs.Boundary.{parted, plain-parts, sorted-ones, regrouped, map_same}
-use Rattle.canonical_order.proofs.Tests.{place-before, parted-at}
+use Rattle.canonical_order.proofs.Tests.{tells-field, tells-variant, place-before, parted-at}
 use Rattle.canonical_order.proofs.Writes.{sorted-fits}
 use Rattle.standard.proofs.General.{and-true as and_both}
 
@@ -61,9 +61,9 @@ part-tags : (l : Tag) (ts : List Tag) → PartOk (l ∷ ts) → arrange_part (l 
 unfolding PartOk arrange_part after_first
 part-tags l ts h = let i = last-ones is_variant ts h in ap₂ (λ (x y : List Tag). l ∷ (x ++ sort_by itself y)) i.1 i.0
 
-part_at : (s : List ℕ) (v len : ℕ) (t : Subtag) → 0 < length s → Led s → Plain (tags_of s) → PartOk (tags_of s) → Stepped s 0 t → v ≡ place_of Variant (1 + t.len) (tags_of (drop (1 + t.len) s))
+part_at : (s : List ℕ) (v len : ℕ) (t : Subtag) → 0 < length s → Led s → Plain (tags_of s) → PartOk (tags_of s) → Stepped s 0 t → v ≡ place_of of_variant (1 + t.len) (tags_of (drop (1 + t.len) s))
     → PartAt s v (take v s) (drop v s)
-unfolding sorted_bytes tag_test
+unfolding sorted_bytes
 part_at s v len t n l h k w e =
     let q : 0 + 1 + t.len ≡ 1 + t.len = omega arith in
     let x = head_tag (split (drop 1 s)) in
@@ -71,7 +71,7 @@ part_at s v len t n l h k w e =
     let d : tags_of s ≡ x ∷ ts = w.on.tags ∙ ap (λ (i : ℕ). x ∷ tags_of (drop i s)) q in
     let g = grouped is_variant ts in
     let p : Plain (x ∷ ts) = rw d at h in
-    let m = place-before Variant (1 + t.len) ts (plain-tail x ts p) in
+    let m = place-before of_variant is_variant tells-variant (1 + t.len) ts (plain-tail x ts p) in
     let c : tags_of s ≡ (x ∷ g.before) ++ flat g.groups = d ∙ ap (◌∷◌ x) (grouped-all is_variant ts) in
     let z : length (led (x ∷ g.before)) ≡ v = length-led x g.before ∙ omega (arith, w.size) in
     let r = parted (x ∷ g.before) (flat g.groups) s v l c z in
@@ -91,7 +91,7 @@ part_at s v len t n l h k w e =
     plain-tail t ts p = (plain-parts (t ∷ []) ts p).1
 
 pub part : (s : List ℕ) (v : ℕ) (t : Subtag) → 0 < length s → Led s → Plain (tags_of s) → PartOk (tags_of s) → t ≡ subtag_of (head_tag (split (take (length s - 1) (drop 1 s))))
-    → v ≡ place_of Variant (1 + t.len) (tags_of (drop (1 + t.len) s)) → PartAt s v (take v s) (take (length s - v) (drop v s))
+    → v ≡ place_of of_variant (1 + t.len) (tags_of (drop (1 + t.len) s)) → PartAt s v (take v s) (take (length s - v) (drop v s))
 part s v t n l h k d e =
     let z : take (length s - v) (drop v s) ≡ drop v s = take_all (length s - v) (drop v s) (simp length-drop (omega arith)) in
     rw z (part_at s v t.len t n l h k (stepped s 0 t n l d) e)
@@ -133,12 +133,12 @@ pub record FieldsAt (s : List ℕ) (k : ℕ) (a b : List ℕ) : Type 0 where
   pub rest_plain : Plain (tags_of b)
   pub bytes : led (arrange_fields (tags_of s)) ≡ led (arrange_part (tags_of a)) ++ sorted_bytes 2 false b
 
-fields_at : (s : List ℕ) (k : ℕ) → Led s → Plain (tags_of s) → FieldsOk (tags_of s) → k ≡ place_of Field 0 (tags_of s) → FieldsAt s k (take k s) (drop k s)
-unfolding FieldsOk arrange_fields sorted_bytes sorted_tags tag_test
+fields_at : (s : List ℕ) (k : ℕ) → Led s → Plain (tags_of s) → FieldsOk (tags_of s) → k ≡ place_of field_from 0 (tags_of s) → FieldsAt s k (take k s) (drop k s)
+unfolding FieldsOk arrange_fields sorted_bytes sorted_tags
 fields_at s k l h o e =
     let ts = tags_of s in
     let g = grouped is_field_key ts in
-    let w = parted-at Field s k l h e in
+    let w = parted-at field_from is_field_key tells-field s k l h e in
     let p = plain-parts g.before (flat g.groups) (subst (λ (x : List Tag). Plain x) (grouped-all is_field_key ts) h) in
     let c : (grouped (is_head 2) (tags_of (drop k s))).groups ≡ g.groups =
     ap (λ (x : List Tag). (grouped (is_head 2) x).groups) w.rest ∙ ap (λ (x : Groups). x.groups) (sym (grouped-agree (flat g.groups) o.1)) ∙ regrouped is_field_key ts in
@@ -155,7 +155,7 @@ fields_at s k l h o e =
           ∙ ap₂ (λ (x : List Tag) (y : List (List Tag)). led (arrange_part x) ++ led (flat (sort_by head_tag y))) (sym w.first) (sym (map_same (grouped (is_head 2) (tags_of (drop k s))).groups ∙ c));
     }
 
-pub fields : (s : List ℕ) (k : ℕ) → Led s → Plain (tags_of s) → FieldsOk (tags_of s) → k ≡ place_of Field 0 (tags_of s) → FieldsAt s k (take k s) (take (length s - k) (drop k s))
+pub fields : (s : List ℕ) (k : ℕ) → Led s → Plain (tags_of s) → FieldsOk (tags_of s) → k ≡ place_of field_from 0 (tags_of s) → FieldsAt s k (take k s) (take (length s - k) (drop k s))
 fields s k l h o e =
     let z : take (length s - k) (drop k s) ≡ drop k s = take_all (length s - k) (drop k s) (simp length-drop (omega arith)) in
     rw z (fields_at s k l h o e)
@@ -166,7 +166,7 @@ part-size [] l h k = omega (arith, ap length (part_none [] refl))
 part-size (b ∷ r) l h k =
     let s = b ∷ r in
     let t = subtag_of (head_tag (split (take (length s - 1) (drop 1 s)))) in
-    let v = place_of Variant (1 + t.len) (tags_of (drop (1 + t.len) s)) in
+    let v = place_of of_variant (1 + t.len) (tags_of (drop (1 + t.len) s)) in
     let w = part s v t (omega arith) l h k refl refl in
     let y = take (length s - v) (drop v s) in
     let n = ap length w.bytes ∙ length-append (map normal_byte (take v s)) (sorted_bytes 8 false y) in
@@ -175,7 +175,7 @@ part-size (b ∷ r) l h k =
 
 pub fields-size : (s : List ℕ) → Led s → Plain (tags_of s) → FieldsOk (tags_of s) → length (led (arrange_fields (tags_of s))) ≤ length s
 fields-size s l h o =
-    let k = place_of Field 0 (tags_of s) in
+    let k = place_of field_from 0 (tags_of s) in
     let w = fields s k l h o refl in
     let a = take k s in
     let b = take (length s - k) (drop k s) in

@@ -9,4 +9,4 @@ pub mod Boundary
 pub mod Arranging
 pub mod Tests
 pub mod Fields
-pub mod Keyed
+pub mod Scanned

@@ -6,10 +6,8 @@ use Rattle.standard.specs.Grammar.{grouped, flat, drop_true, t_tag, arrange, var
 use Rattle.standard.specs.Reading.{split, after_first}
 use Rattle.subtag.specs.declared.Subtag.{Subtag}
 use Rattle.subtag.specs.Subtags.{subtag_of}
-use Rattle.subtag.specs.Kinds.{field_from, kind_from}
 use Rattle.canonical_order.specs.declared.choice.Head.{Head}
-use Rattle.canonical_order.specs.declared.section.What.{What}
-use Rattle.canonical_order.specs.declared.section.What.TheVariants.{Field, Variant}
+use Rattle.subtag.specs.Kinds.{kind_from}
 use Rattle.subtag.specs.Sections.{tags_of, led}
 
 -- each of two bytes or more
@@ -65,19 +63,14 @@ sorted_bytes width trim s = led (sorted_tags width trim s)
 unfoldable pub arranged_tags : List ℕ → List Tag
 arranged_tags s = flat (arrange (grouped (is_head 1) (tags_of s)).groups)
 
--- Tests of a subtag, by what the code keeps of it; and the tests that they stand for.
-unfoldable pub test_of : What → Subtag → Bool
-test_of Field t = field_from t
-test_of Variant t = variant_kind (kind_from t)
+-- a variant, by what the code keeps of a subtag
+unfoldable pub of_variant : Subtag → Bool
+of_variant t = variant_kind (kind_from t)
 
-unfoldable pub tag_test : What → Tag → Bool
-tag_test Field t = is_field_key t
-tag_test Variant t = is_variant t
-
--- where the first such subtag stands
-unfoldable pub place_of : What → ℕ → List Tag → ℕ
-place_of what at [] = at
-place_of what at (t ∷ ts) = cond (test_of what (subtag_of t)) at (place_of what (at + 1 + length t) ts)
+-- where the first subtag stands that passes the test
+unfoldable pub place_of : (Subtag → Bool) → ℕ → List Tag → ℕ
+place_of p at [] = at
+place_of p at (t ∷ ts) = cond (p (subtag_of t)) at (place_of p (at + 1 + length t) ts)
 
 -- What an accepted language part and accepted fields have: after the first variant only variants; after the first field
 -- no other subtag of two bytes.

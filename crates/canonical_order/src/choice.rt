@@ -1,7 +1,8 @@
 // The head of the next group: of the heads above the last one, the least, and of equal ones the first.
 ghost use Rattle.std.specs.Prelude.{◌≡◌, ◌+◌, ◌<◌, length};
 ghost use Rattle.subtag.specs.Sections.{tags_of, Led};
-ghost use Rattle.canonical_order.specs.Section.{better_of, no_head, pick_from};
+ghost use Rattle.canonical_order.specs.Section.{no_head, pick_from};
+ghost use Rattle.canonical_order.specs.Heads.{head_of, better_by};
 
 use subtag::{Subtag, scan};
 
@@ -13,26 +14,40 @@ pub struct Head {
     pub key: u64,
 }
 
-// The better of best and the subtag t at the place at.
-fn better(best: Head, width: usize, last: u64, at: usize, t: Subtag) -> Head
-    requires { at + t.len < 4096 }
-    ensures { result ≡ better_of width last at t best }
+// No head yet, in a section that ends at n: every number is below this one.
+#[tactic(auto, unfolding(crate::specs::Section::no_head))]
+pub(crate) fn no_head(n: usize) -> Head
+    ensures { result ≡ no_head n }
 {
-    let len = t.len;
-    let key = t.key;
-    if width < len {
-        return best;
+    Head {
+        at: n,
+        next: n,
+        key: u64::MAX,
     }
-    if key <= last {
-        return best;
-    }
-    if best.key <= key {
-        return best;
-    }
+}
+
+// The head that the subtag at the place is; one of more than width bytes is none, with the number 0, which is above no other.
+#[tactic(auto, unfolding(crate::specs::Heads::head_of))]
+pub(crate) fn head_of(t: Subtag, width: usize, at: usize) -> Head
+    requires { at + t.len < 4096 }
+    ensures { result ≡ head_of width at t }
+{
     Head {
         at,
-        next: at + 1 + len,
-        key,
+        next: at + 1 + t.len,
+        key: if t.len <= width { t.key } else { 0 },
+    }
+}
+
+// The better of best and another head: the lesser of those above last, and of equal ones best.
+#[tactic(auto, unfolding(crate::specs::Heads::better_by))]
+pub(crate) fn better(best: Head, last: u64, head: Head) -> Head
+    ensures { result ≡ better_by last head best }
+{
+    if last < head.key && head.key < best.key {
+        head
+    } else {
+        best
     }
 }
 
@@ -41,19 +56,14 @@ pub(crate) fn next_above(s: &[u8], width: usize, last: u64) -> Head
     requires { Led s.now × (length s.now < 4096) }
     ensures { result ≡ pick_from width last 0 (no_head (length s.now)) (tags_of s.now) }
 {
-    let n = s.len();
-    let mut best = Head {
-        at: n,
-        next: n,
-        key: u64::MAX,
-    };
-    let mut at: usize = 0;
-    while at < n {
+    let mut best = no_head(s.len());
+    let mut at = 0;
+    // a step is as long as its subtag
+    while at < s.len() {
         let start = at + 1;
-        let t = scan(&s[start..]);
-        let len = t.len;
-        best = better(best, width, last, at, t);
-        at = start + len;
+        let head = head_of(scan(&s[start..]), width, at);
+        best = better(best, last, head);
+        at = head.next;
     }
     best
 }

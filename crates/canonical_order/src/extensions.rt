@@ -6,9 +6,9 @@ ghost use Rattle.subtag.specs.Sections.{tags_of, Led, Plain, led};
 ghost use Rattle.canonical_order.specs.Section.{Longer, Each, Arrangeable, is_head, arranged_tags, PartOk, FieldsOk};
 
 use crate::choice::next_above;
-use crate::section::{What, first_of, group_end};
+use crate::section::{group_end, is_variant, place_of};
 use crate::sorted::write_sorted;
-use subtag::{lower, put_normalised, scan};
+use subtag::{is_field_key, lower, put_normalised, scan};
 
 // Writes the attributes and keywords of `u`, a section whose subtags have two bytes or more.
 fn write_keywords(s: &[u8], out: &mut [u8], at: usize) -> usize
@@ -45,17 +45,16 @@ pub fn write_extensions(s: &[u8], out: &mut [u8], at: usize) -> usize
         WritesWithin (at + length s) out at (led (arranged_tags s)) result out' }
 {
     let mut put = at;
-    let mut last: u64 = 0;
+    let mut last = 0;
+    // from head to head, each the least above the one before
     loop {
-        let h = next_above(s, 1, last);
-        let from = h.at;
-        let next = h.next;
-        if s.len() <= from {
+        let head = next_above(s, 1, last);
+        if s.len() <= head.at {
             return put;
         }
-        let end = group_end(s, 1, next);
-        put = write_extension(&s[from..end], out, put);
-        last = h.key;
+        let end = group_end(s, 1, head.next);
+        put = write_extension(&s[head.at..end], out, put);
+        last = head.key;
     }
 }
 
@@ -69,7 +68,7 @@ fn write_part(s: &[u8], out: &mut [u8], at: usize) -> usize
     }
     let t = scan(&s[1..]);
     let len = t.len;
-    let v = first_of(s, What::Variant, 1 + len);
+    let v = place_of(s, 1 + len, is_variant);
     let p = put_normalised(&s[..v], out, at);
     write_sorted(&s[v..], 8, false, out, p)
 }
@@ -79,7 +78,7 @@ fn write_fields(s: &[u8], out: &mut [u8], at: usize) -> usize
     requires { (at + length s.now ≤ length out.old) × (length s.now < 4000) × Led s.now × Plain (tags_of s.now) × FieldsOk (tags_of s.now) }
     ensures { Writes out.old at (led (arrange_fields (tags_of s.now))) result out.new }
 {
-    let k = first_of(s, What::Field, 0);
+    let k = place_of(s, 0, is_field_key);
     let p = write_part(&s[..k], out, at);
     write_sorted(&s[k..], 2, false, out, p)
 }

@@ -24,64 +24,45 @@ pub enum Ending {
 }
 
 // Does the input begin with a byte order mark?
+#[tactic(auto, unfolding(crate::specs::Encodings::marked))]
 fn is_marked(lines: &[u8]) -> bool
     ensures { result ≡ marked lines.now }
 {
-    if lines.len() < 3 {
-        return false;
-    }
-    if lines[0] != 0xEF {
-        return false;
-    }
-    if lines[1] != 0xBB {
-        return false;
-    }
-    lines[2] == 0xBF
+    matches!(lines, [0xEF, 0xBB, 0xBF, ..])
 }
 
 // Do the first two bytes say UTF-16?
+#[tactic(auto, unfolding(crate::specs::Encodings::wide_pair))]
 fn is_wide_pair(a: u8, b: u8) -> bool
     ensures { result ≡ wide_pair a b }
 {
-    if a == 0 {
-        return true;
-    }
-    if b == 0 {
-        return true;
-    }
-    if a == 0xFF {
-        return b == 0xFE;
-    }
-    if a == 0xFE {
-        return b == 0xFF;
-    }
-    false
+    matches!((a, b), (0, _) | (_, 0) | (0xFF, 0xFE) | (0xFE, 0xFF))
 }
 
 // Is the input UTF-16?
+#[tactic(auto, unfolding(crate::specs::Encodings::wide))]
 fn is_wide(lines: &[u8]) -> bool
     ensures { result ≡ wide lines.now }
 {
-    if lines.len() == 0 {
-        return false;
+    match lines {
+        [] => false,
+        [only] => *only == 0,
+        [first, second, ..] => is_wide_pair(*first, *second),
     }
-    if lines.len() == 1 {
-        return lines[0] == 0;
-    }
-    is_wide_pair(lines[0], lines[1])
 }
 
 // What an input begins with, by these lines.
+#[tactic(auto, unfolding(crate::specs::Encodings::front_of))]
 pub fn front_of(lines: &[u8]) -> Front
     ensures { result ≡ front_of lines.now }
 {
     if is_marked(lines) {
-        return Front::ByteOrderMark;
+        Front::ByteOrderMark
+    } else if is_wide(lines) {
+        Front::Utf16
+    } else {
+        Front::Plain
     }
-    if is_wide(lines) {
-        return Front::Utf16;
-    }
-    Front::Plain
 }
 
 // Does the first line end in CR before its 0A?
@@ -89,14 +70,7 @@ fn ends_in_return(lines: &[u8]) -> bool
     ensures { result ≡ ends_in_return lines.now }
 {
     let end = end_of(lines, b'\n', 0);
-    if lines.len() <= end {
-        return false;
-    }
-    if end == 0 {
-        return false;
-    }
-    let before = end - 1;
-    lines[before] == b'\r'
+    0 < end && end < lines.len() && lines[end - 1] == b'\r'
 }
 
 // Has the first line a CR?
@@ -109,14 +83,15 @@ fn has_return(lines: &[u8]) -> bool
 }
 
 // What ends the first of these lines.
+#[tactic(auto, unfolding(crate::specs::Encodings::ending_of))]
 pub fn ending_of(lines: &[u8]) -> Ending
     ensures { result ≡ ending_of lines.now }
 {
     if ends_in_return(lines) {
-        return Ending::CrLf;
+        Ending::CrLf
+    } else if has_return(lines) {
+        Ending::Cr
+    } else {
+        Ending::Lf
     }
-    if has_return(lines) {
-        return Ending::Cr;
-    }
-    Ending::Lf
 }

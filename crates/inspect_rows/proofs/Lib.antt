@@ -1,3 +1,3 @@
-pub mod Rows
+pub mod Texts
 pub mod Bounds
 pub mod Examples

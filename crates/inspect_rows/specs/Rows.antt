@@ -5,6 +5,8 @@ use Rattle.standard.specs.Tag.{Tag, text}
 use Rattle.standard.specs.Report.{Report, report}
 use Rattle.tsv.specs.Fields.{decimal, field, asked_of}
 use Rattle.meaning.specs.Meaning.{meaning_of}
+use Rattle.reader.specs.Words.{word_is}
+use Rattle.inspect_rows.specs.declared.Told.{Told}
 use Rattle.key_rows.specs.Keys.{number_of, made_key}
 
 -- the bytes of a text
@@ -15,6 +17,18 @@ Bytes = List ℕ
 unfoldable pub dashed : Bytes → Bytes
 dashed [] = 45 ∷ []
 dashed (b ∷ bs) = b ∷ bs
+
+-- what is told of an identifier, as the standard's report
+unfoldable pub told_is : Told → Report
+told_is t = record {
+  number = t.number;
+  place = t.place;
+  language = word_is t.report.language;
+  script = word_is t.report.script;
+  region = word_is t.report.region;
+  variants = t.report.variants;
+  extensions = t.report.extensions;
+}
 
 -- number and place
 unfoldable pub where_text : ℕ → ℕ → Bytes

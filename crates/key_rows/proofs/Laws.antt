@@ -3,7 +3,7 @@ use mathlib.Core.Path.{◌≡◌, refl, sym, ap, ◌∙◌}
 use mathlib.Core.Bool.{true}
 use mathlib.Core.List.{List, [], ◌∷◌, ◌++◌}
 use mathlib.Core.Option.{none}
-use Prim.Native.Nat.{ℕ, ◌+◌, ◌≤◌, ◌<◌}
+use Prim.Native.Nat.{ℕ, ◌+◌, ◌≤◌}
 use native.Mathlib.Omega.{arith}
 use lib.Dec.{leb}
 use lib.ListN.{length, take, drop}
@@ -12,43 +12,32 @@ use borrow.Author.Tests.{eq-eqb, ne_eqb, le-leb}
 use Rattle.standard.specs.Delivery.{Bytes, Made, result, refusal, Given, given}
 use Rattle.standard.specs.Calls.{minimise}
 use Rattle.standard.specs.Table.{tables_of, check, to_maximise}
-use Rattle.standard.specs.Make.{make, make_of}
+use Rattle.standard.specs.Make.{make}
 use Rattle.standard.proofs.Demand.{result-of}
 use Rattle.standard.proofs.Numbers.{Proper}
 use Rattle.standard.proofs.Table.{passed, good-tables, shaped-tables}
 use Rattle.standard.proofs.Whole.{narrow-likely}
-use Rattle.standard.proofs.Long.{read-long, read_short}
-use Rattle.operations.specs.Answer.{answer_of}
+use Rattle.standard.proofs.Long.{read_short}
+use Rattle.key_rows.specs.First.{made-long, row_first}
+use Rattle.operations.specs.Answer.{answer_of, answer_by, given_is}
+use Rattle.operations.specs.declared.delivery.Done.{Done}
+use Rattle.operations.specs.declared.delivery.Refusal.{Refusal}
+use Rattle.std.specs.Prelude.{Result, Ok, Err}
+use Rattle.lines.specs.declared.rows.Written.{Written}
+use Rattle.table_check.specs.declared.Fault.{Fault}
 use Rattle.operations.specs.Both.{TestedBoth, operation_of}
-use Rattle.operations.specs.Completed.{given_answered, answer_by}
-use Rattle.operations.proofs.CompleteChecked.{answer-given, minimised-proper}
+use Rattle.operations.proofs.CompleteChecked.{minimised-proper}
 use Rattle.tsv.specs.Fields.{asked_of}
-use Rattle.tsv.proofs.Laws.{asked-two, asked-fits}
+use Rattle.tsv.proofs.Laws.{asked-fits}
 use Rattle.lines.specs.Pieces.{rows_text, piece_text, piece_used}
 use Rattle.lines.specs.Squeeze.{handed, all_lines, together}
-use Rattle.lines.proofs.Pieces.{rest-rows, first-enough, rows-handed}
+use Rattle.lines.proofs.Pieces.{rest-rows, rows-handed}
 use Rattle.table.specs.Lines.{lines}
-use Rattle.table_check.specs.declared.Verdict.{Verdict}
-use Rattle.table_check.specs.declared.Verdict.TheVariants.{Bad}
 use Rattle.table_check.specs.Verdicts.{verdict_is}
-use Rattle.key_rows.specs.declared.Keyed.{Keyed}
-use Rattle.key_rows.specs.Keys.{number_of, kept_of, answer_text, made_key, key_row, kept_text, Answer, rows_given, after_tables, keys_given, keyed_is}
+use Rattle.key_rows.specs.Keys.{number_of, kept_of, answer_text, made_key, key_row, kept_text, rows_given, after_tables, keys_given, keyed_is}
 use Rattle.operations.specs.declared.delivery.Answer.{Answer as Answered}
-use Rattle.operations.specs.declared.complete.Answered.{Answered as Outcome}
 
 -- A line of more than 255 bytes is refused with 2.
-made-long : (A L x : Bytes) → 255 < length x → made_key A L x ≡ refusal 2 0 0
-unfolding made_key make make_of
-made-long A L x h = rw (read-long x h)
-
-row-long : (A L x : Bytes) → 255 < length x → key_row A L x ≡ answer_text 2 [] (45 ∷ [])
-unfolding key_row number_of kept_of answer_text
-row-long A L x h = rw (made-long A L x h, asked-two 2 x refl, asked-two 2 [] refl)
-
--- Of a line only the first 260 bytes matter: with more than 255 it is refused.
-pub row_first : (A L x : Bytes) → key_row A L (take 260 x) ≡ key_row A L x
-row_first A L x = first-enough (key_row A L) (answer_text 2 [] (45 ∷ [])) (λ y h. row-long A L y (omega arith)) x
-
 sets-front : (text out : Bytes) → length text ≤ length out → sets out 0 text ≡ text ++ drop (length text) out
 sets-front text out h = sets-eq text out 0 (omega arith) ∙ (let z : 0 + length text ≡ length text = omega arith in rw z refl)
 
@@ -106,12 +95,11 @@ module _ (A L x : Bytes) (pass : check to_maximise A L [] ≡ none) where
   pub told : (a : Answered) (form form₀ : Bytes) → length form₀ ≡ 256 → answer_of a form ≡ given (made_key A L x) form₀ → Told a form
   told a form form₀ n g = told-as a form form₀ (made_key A L x) refl n g made-proper
 
-pub told-row : (A L x : Bytes) (t : TestedBoth A L) (r : Outcome) (a : Answered) (form form₀ : Bytes) → length form₀ ≡ 256 → a ≡ answer_by r
-    → given_answered r form ≡ given (make (tables_of A L []) (operation_of true) x) form₀ → Told A L x t.passes a form
-unfolding made_key operation_of
-told-row A L x t r a form form₀ n e g = told A L x t.passes a form form₀ n (ap (λ (q : Answered). answer_of q form) e ∙ answer-given r form ∙ g)
+pub told-row : (A L x : Bytes) (t : TestedBoth A L) (r : Result Done Refusal) (a : Answered) (form form₀ : Bytes) → length form₀ ≡ 256 → a ≡ answer_by r
+    → given_is r form ≡ given (make (tables_of A L []) (operation_of true) x) form₀ → Told A L x t.passes a form
+unfolding made_key operation_of given_is
+told-row A L x t r a form form₀ n e g = told A L x t.passes a form form₀ n (ap (λ (q : Answered). answer_of q form) e ∙ g)
 
--- what is kept, as the code decides it
 pub kept-form : (n : ℕ) (form : Bytes) → n ≡ 0 → kept_text n form ≡ form
 unfolding kept_text
 kept-form n form e = rw (eq-eqb n 0 e)
@@ -121,29 +109,19 @@ unfolding kept_text
 kept-none n form f = rw (ne_eqb n 0 f)
 
 -- The rows of a piece, once they are written.
-module _ (A L x : Bytes) (pass : check to_maximise A L [] ≡ none) (out₀ out : Bytes) (k : Keyed) where
-  pub rows-given : k.number ≡ 0 → k.place ≡ 0 → k.table ≡ 0 → k.used ≡ piece_used (key_row A L) 540 (length out₀) x → k.len ≡ length (piece_text (key_row A L) 540 (length out₀) x)
-      → out ≡ sets out₀ 0 (piece_text (key_row A L) 540 (length out₀) x) → k.len ≤ length out₀ → keyed_is k out ≡ keys_given A L x out₀
+module _ (A L x : Bytes) (pass : check to_maximise A L [] ≡ none) (out₀ out : Bytes) (w : Written) where
+  pub rows-given : w.used ≡ piece_used (key_row A L) 540 (length out₀) x → w.len ≡ length (piece_text (key_row A L) 540 (length out₀) x)
+      → out ≡ sets out₀ 0 (piece_text (key_row A L) 540 (length out₀) x) → w.len ≤ length out₀ → keyed_is (Ok w) out ≡ keys_given A L x out₀
   unfolding keys_given after_tables rows_given keyed_is
-  rows-given n p t u l o h =
+  rows-given u l o h =
       let text = piece_text (key_row A L) 540 (length out₀) x in
       let s : out ≡ text ++ drop (length text) out₀ = o ∙ sets-front text out₀ (omega arith) in
-      rw (pass, n, p, t, u, l, s)
+      rw (pass, u, l, s)
 
--- a bad table
-pub table-given : {n p t : ℕ} (A L x out : Bytes) (v : Verdict) → v ≡ Bad n p t → verdict_is v ≡ check to_maximise A L []
-    → keyed_is (record { number = n; place = p; table = t; used = 0; len = 0 }) out ≡ keys_given A L x out
+pub table-given : (A L x out : Bytes) (f : Fault) → verdict_is (Err f) ≡ check to_maximise A L [] → keyed_is (Err f) out ≡ keys_given A L x out
 unfolding keys_given after_tables keyed_is
-table-given A L x out v g f = rw (← f, g)
+table-given A L x out f g = rw (← g)
 
--- an answer over good tables
-module _ (A L x out₀ out : Bytes) (k : Keyed) (e : keyed_is k out ≡ keys_given A L x out₀) where
-  pub good-keyed : check to_maximise A L [] ≡ none → (k.number ≡ 0) × (k.used ≡ piece_used (key_row A L) 540 (length out₀) x) × (k.len ≡ length (piece_text (key_row A L) 540 (length out₀) x))
-  unfolding keys_given keyed_is rows_given after_tables
-  good-keyed pass = let q = rw pass at e in (ap (λ (a : Answer). a.number) q, ap (λ (a : Answer). a.used) q, ap (λ (a : Answer). a.len) q)
-
--- THE PROGRAM: of blocks of input, wherever they end, the rows of the lines that the line reader hands over are the rows
--- of the lines of the input.
 pub all-rows : (A L : Bytes) (bs : List Bytes) → rows_text (key_row A L) (all_lines (handed [] bs)) ≡ rows_text (key_row A L) (lines (together bs))
 all-rows A L bs = rows-handed (key_row A L) (row_first A L) bs
 

@@ -1,5 +1,5 @@
 -- The rows of the program `keys`, and what a call gives back for a piece of input lines. Assumes nothing.
-use Rattle.std.specs.Prelude.{cond, [], ◌∷◌, ◌++◌, ℕ, eqb, length, drop}
+use Rattle.std.specs.Prelude.{cond, Result, Ok, Err, [], ◌∷◌, ◌++◌, ℕ, eqb, length, drop}
 use Rattle.std.proofs.Math.Option.{Option, none, some}
 use Rattle.standard.specs.Delivery.{Bytes, Made, result, refusal}
 use Rattle.standard.specs.Calls.{minimise}
@@ -7,7 +7,9 @@ use Rattle.standard.specs.Table.{TableFault, tables_of, check, to_maximise}
 use Rattle.standard.specs.Make.{make}
 use Rattle.tsv.specs.Fields.{decimal, field, asked_of}
 use Rattle.lines.specs.Pieces.{piece_text, piece_used}
-use Rattle.key_rows.specs.declared.Keyed.{Keyed}
+use Rattle.lines.specs.declared.rows.Written.{Written}
+use Rattle.table_check.specs.declared.Fault.{Fault}
+use Rattle.table_check.specs.Verdicts.{number_of as fault_number, table_of as fault_table}
 
 -- the number that an operation gives where its result has room
 unfoldable pub number_of : Made → ℕ
@@ -59,5 +61,6 @@ keys_given A L x out =
     after_tables (check to_maximise A L []) (rows_given (piece_used (key_row A L) 540 (length out) x) (piece_text (key_row A L) 540 (length out) x) out) out
 
 -- an answer of the code, with the output afterwards
-unfoldable pub keyed_is : Keyed → Bytes → Answer
-keyed_is k out = record { number = k.number; place = k.place; table = k.table; used = k.used; len = k.len; output = out }
+unfoldable pub keyed_is : Result Written Fault → Bytes → Answer
+keyed_is (Ok w) out = record { number = 0; place = 0; table = 0; used = w.used; len = w.len; output = out }
+keyed_is (Err f) out = record { number = fault_number f; place = f.place; table = fault_table f; used = 0; len = 0; output = out }

@@ -4,123 +4,23 @@
 // run.
 #![tactic(auto)]
 
-ghost use Rattle.std.specs.Prelude.{◌≡◌, false, [], ◌≤◌, length};
+ghost use Rattle.std.specs.Prelude.{◌≡◌, [], length};
 ghost use Rattle.standard.specs.Table.{check, to_maximise};
-ghost use Rattle.table.specs.Hints.{Hinted};
 ghost use Rattle.lines.specs.Pieces.{rows_text};
 ghost use Rattle.operations.specs.Both.{TestedBoth};
 ghost use Rattle.key_rows.specs.Keys.{key_row};
-ghost use Rattle.program_io.specs.Handed.{Room};
-ghost use Rattle.program_io.specs.Printed.{PrintsLines, Answers, headed, Headed};
+ghost use Rattle.program_io.specs.Printed.{Answers, headed, Headed};
 ghost use Rattle.program_io.specs.Runs.{Replies, Runs};
 ghost use Rattle.keys.specs.Header.{header};
-ghost use Rattle.table.specs.Lines.{lines};
 
-use operations::complete::form_buffer;
+use answer_lines::{refuse, unread};
+use key_rows::rows::KeyRows;
+use operations::tables::tested;
 use program_io::output::Output;
-use program_io::warning::say_tables;
-use program_io::{Run, Status, Streams, end, finish, input, load_table, output};
-use std::io::Stdout;
+use program_io::{Run, Status, Streams, end, finish, load_table, output};
 use std::process::ExitCode;
-use table::hints::{fill_hints, many};
-use table_check::{Verdict, check_likely};
-
-// Prints the rows of the lines of a piece, as many at a time as have room in out; none after a write that failed.
-fn print_rows(
-    stdout: Stdout,
-    from: Output,
-    piece: &[u8],
-    aliases: &[u8],
-    alias_hints: &[u16],
-    likely: &[u8],
-    likely_hints: &[u16],
-    form: &mut [u8],
-    out: &mut [u8],
-) -> Output
-    requires { let aliases = aliases.now in let likely = likely.now in
-        TestedBoth aliases likely × Hinted aliases alias_hints.now × Hinted likely likely_hints.now × (length form.old ≡ 256)
-        × (540 ≤ length out.old) × (from.failed ≡ false) }
-    ensures { PrintsLines (rows_text (key_row aliases.now likely.now)) (lines piece.now) from result }
-{
-    let mut o = from;
-    let mut at = 0;
-    while at < piece.len() {
-        let k = key_rows::rows_hinted(
-            &piece[at..],
-            aliases,
-            alias_hints,
-            likely,
-            likely_hints,
-            form,
-            out,
-        );
-        let len = k.len;
-        o = output::print(stdout, o, &out[..len]);
-        if output::has_failed(o) {
-            return o;
-        }
-        at += k.used;
-    }
-    o
-}
-
-// Behind the header, reads to the end of the input, or until reading or printing fails.
-fn answer_input(
-    streams: Streams,
-    from: Output,
-    aliases: &[u8],
-    alias_hints: &[u16],
-    likely: &[u8],
-    likely_hints: &[u16],
-    form: &mut [u8],
-    block: &mut [u8],
-    piece: &mut [u8],
-    out: &mut [u8],
-) -> Run
-    requires { let aliases = aliases.now in let likely = likely.now in
-        TestedBoth aliases likely × Hinted aliases alias_hints.now × Hinted likely likely_hints.now × (length form.old ≡ 256)
-        × Room (length block.old) (length piece.old) × (540 ≤ length out.old) × Headed header from }
-    ensures { Replies (Answers (headed header (rows_text (key_row aliases.now likely.now)))) result }
-{
-    let mut input = input::begin();
-    let mut output = from;
-    loop {
-        input = input::next(streams.stdin, input, block, piece);
-        if input::has_failed(input) {
-            return Run {
-                number: 0,
-                input,
-                output,
-            };
-        }
-        let whole = input::whole(input);
-        output = print_rows(
-            streams.stdout,
-            output,
-            &piece[..whole],
-            aliases,
-            alias_hints,
-            likely,
-            likely_hints,
-            form,
-            out,
-        );
-        if output::has_failed(output) {
-            return Run {
-                number: 0,
-                input,
-                output,
-            };
-        }
-        if input::is_ended(input) {
-            return Run {
-                number: 0,
-                input,
-                output,
-            };
-        }
-    }
-}
+use table::hints::{fill_hints, indexed, many};
+use table_check::check_likely;
 
 // Room for the rows of a piece of usual lines: `en` and its 0A are 3 bytes, its row is 8.
 fn out_buffer() -> [u8; 786432]
@@ -129,7 +29,7 @@ fn out_buffer() -> [u8; 786432]
     [0; 786432]
 }
 
-// Answers the input over tables that passed their check; their hints and the rooms are made once.
+// Answers the input over tables that passed their check; their hints and the room for rows are made once.
 fn answer(streams: Streams, from: Output, aliases: &[u8], likely: &[u8]) -> Run
     requires { TestedBoth aliases.now likely.now × Headed header from }
     ensures { Replies (Answers (headed header (rows_text (key_row aliases.now likely.now)))) result }
@@ -138,13 +38,9 @@ fn answer(streams: Streams, from: Output, aliases: &[u8], likely: &[u8]) -> Run
     fill_hints(aliases, &mut a);
     let mut l = many();
     fill_hints(likely, &mut l);
-    let mut form = form_buffer();
-    let mut block = input::block_buffer();
-    let mut piece = input::piece_buffer();
+    let tables = tested(indexed(aliases, &a), indexed(likely, &l));
     let mut out = out_buffer();
-    answer_input(
-        streams, from, aliases, &a, likely, &l, &mut form, &mut block, &mut piece, &mut out,
-    )
+    answer_lines::answer(streams, from, &KeyRows { tables }, &mut out)
 }
 
 // Prints the header, tests the tables, and answers the input.
@@ -154,23 +50,12 @@ fn run(streams: Streams, aliases: &[u8], likely: &[u8]) -> Run
 {
     let o = output::print(streams.stdout, output::begin(), b"asked\tnumber\tkept\n");
     if output::has_failed(o) {
-        return Run {
-            number: 0,
-            input: input::begin(),
-            output: o,
-        };
+        return unread(0, o);
     }
-    let v = check_likely(aliases, likely);
-    if let Verdict::Bad(number, place, table) = v {
-        let output = program_io::print_table(streams.stdout, o, number, place, table);
-        say_tables(streams.stderr, b"keys", number, output);
-        return Run {
-            number,
-            input: input::begin(),
-            output,
-        };
+    match check_likely(aliases, likely) {
+        Ok(()) => answer(streams, o, aliases, likely),
+        Err(fault) => refuse(streams, b"keys", o, fault),
     }
-    answer(streams, o, aliases, likely)
 }
 
 fn main(rt: HostRuntime) -> ExitCode {
@@ -181,16 +66,12 @@ fn main(rt: HostRuntime) -> ExitCode {
     };
     let mut a = program_io::buffer();
     let mut l = program_io::buffer();
-    let x = load_table(&rt, streams.stderr, b"keys", "aliases.tsv", &mut a);
-    if !x.read {
+    let Some(a_len) = load_table(&rt, streams.stderr, b"keys", "aliases.tsv", &mut a) else {
         return finish(&rt, Status::Failed);
-    }
-    let y = load_table(&rt, streams.stderr, b"keys", "likely.tsv", &mut l);
-    if !y.read {
+    };
+    let Some(l_len) = load_table(&rt, streams.stderr, b"keys", "likely.tsv", &mut l) else {
         return finish(&rt, Status::Failed);
-    }
-    let a_len = x.len;
-    let l_len = y.len;
+    };
     let r = run(streams, &a[..a_len], &l[..l_len]);
     end(&rt, streams.stderr, b"keys", r)
 }

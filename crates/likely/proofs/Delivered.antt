@@ -1,25 +1,22 @@
 -- Laws of a form's length, and of its delivery by parts. Assumes nothing.
-use mathlib.Core.Path.{◌≡◌, refl, sym, ap, ap₂, ◌∙◌}
+use mathlib.Core.Path.{◌≡◌, refl, sym, ap, ap₂, subst, ◌∙◌}
 use mathlib.Core.Bool.{Bool, true, false, cond}
 use mathlib.Core.List.{[], ◌++◌}
 use mathlib.Core.Option.{none, some}
-use Prim.Native.Nat.{ℕ, ◌+◌, ◌-◌, ◌≤◌, ◌<◌}
+use Prim.Native.Nat.{ℕ, ◌+◌, ◌≤◌, ◌<◌}
 use native.Mathlib.Omega.{arith}
-use borrow.Author.Tests.{le-leb, lt-leb, leb-true}
+use borrow.Author.Tests.{le-leb, lt-leb, leb-true, leb-false}
 use lib.Dec.{leb}
-use lib.ListN.{length, take, drop, length-append}
+use lib.ListN.{length, drop, length-append}
 use lib.Seq.{sets, sets-eq}
-use Rattle.standard.specs.Delivery.{Bytes, Made, refusal, form, Given, given}
-use Rattle.standard.proofs.General.{bool_cases}
+use Rattle.std.specs.Prelude.{Option, Some, None, Ok, Err}
+use Rattle.std.specs.Option.{is_some}
+use Rattle.standard.specs.Delivery.{Bytes, Made, Given, given}
 use Rattle.byte_string.proofs.Stores.{sets-append}
-use Rattle.standard.specs.Tag.{pick, text}
-use Rattle.likely.specs.Kept.{kept_parts}
-use Rattle.likely.specs.declared.lsr.Kept.{Kept}
-use Rattle.likely.specs.declared.lsr.Kept.TheVariants.{Neither, Region, Script, Both}
-use Rattle.likely.specs.Parts.{Parts, parts3, joined_parts, known_part, known_parts, cut_at, cut_parts, language_of, over_parts, filled_by, fill_parts, minimal_parts, Ready}
-use Rattle.likely.proofs.Lookups.{language-cut, script-cut, region-cut}
-use Rattle.likely.specs.declared.forms.Outcome.TheVariants.{Done, NoRow, Long, Short}
-use Rattle.likely.specs.Forms.{given_by, length_or256, short_form, bytes_of, made_form, kept_if, made_of, made_filled, made_parts}
+use Rattle.standard.specs.Tag.{text}
+use Rattle.likely.specs.Parts.{Parts, parts3, joined_parts, known_part, known_parts, fits_parts, fill_parts, minimal_parts, HasRoom}
+use Rattle.likely.specs.declared.forms.NoForm.TheVariants.{NoRow, Overlong, Short}
+use Rattle.likely.specs.Forms.{given_by, short_length, short_form, bytes_of, made_form, kept_if, made_of, made_filled, made_parts, RoomFor}
 
 -- the length of a form, by its parts
 pub form-length : (l s r x : Bytes) → length (bytes_of (parts3 l s r) x) ≡ length l + length s + length r + length x
@@ -30,29 +27,30 @@ form-length l s r x =
     let c = length-append s r in
     omega arith
 
-pub long-form : (l s r x : Bytes) → 255 < length l + length s + length r + length x → 256 ≡ length_or256 (length (bytes_of (parts3 l s r) x))
-unfolding length_or256
-long-form l s r x h =
-    let n = form-length l s r x in
-    rw (n) (sym (ap (λ (b : Bool). cond b (length l + length s + length r + length x) 256) (lt-leb (length l + length s + length r + length x) 255 h)))
+-- a length of at most 255, and one over 255
+pub short-some : (m n : ℕ) → Some n ≡ short_length m → (n ≡ m) × (m ≤ 255)
+unfolding short_length
+short-some m n e = go (leb m 255) refl e
+  where
+    go : (b : Bool) → leb m 255 ≡ b → Some n ≡ cond b (Some m) None → (n ≡ m) × (m ≤ 255)
+    go true f k = (cc, leb-true m 255 f)
+    go false f k = absurd (cc)
 
-pub short-form : (l s r x : Bytes) → length l + length s + length r + length x ≤ 255 → length l + length s + length r + length x ≡ length_or256 (length (bytes_of (parts3 l s r) x))
-unfolding length_or256
-short-form l s r x h =
-    let n = form-length l s r x in
-    rw (n) (sym (ap (λ (b : Bool). cond b (length l + length s + length r + length x) 256) (le-leb (length l + length s + length r + length x) 255 h)))
+pub short-none : (m : ℕ) → None ≡ short_length m → 255 < m
+unfolding short_length
+short-none m e = go (leb m 255) refl e
+  where
+    go : (b : Bool) → leb m 255 ≡ b → ◌≡◌ {A = Option ℕ} None (cond b (Some m) None) → 255 < m
+    go true f k = absurd (cc)
+    go false f k = leb-false m 255 f
 
-pub long-1 : (l s r x : Bytes) → 255 < length l → 255 < length l + length s + length r + length x
-long-1 l s r x h = omega arith
+pub is-short : (m n : ℕ) → n ≡ m → m ≤ 255 → Some n ≡ short_length m
+unfolding short_length
+is-short m n e h = rw (le-leb m 255 h, e)
 
-pub long-2 : (l s r x : Bytes) → 255 < length s → 255 < length l + length s + length r + length x
-long-2 l s r x h = omega arith
-
-pub long-3 : (l s r x : Bytes) → 255 < length r → 255 < length l + length s + length r + length x
-long-3 l s r x h = omega arith
-
-pub long-4 : (l s r x : Bytes) → 255 < length x → 255 < length l + length s + length r + length x
-long-4 l s r x h = omega arith
+pub is-long : (m : ℕ) → 255 < m → None ≡ short_length m
+unfolding short_length
+is-long m h = rw (lt-leb m 255 h)
 
 -- four parts put one behind the other
 pub put_four : (z k₁ k₂ k₃ k₄ l s r x : Bytes) (a b c d : ℕ) → k₁ ≡ sets z 0 l → a ≡ 0 + length l → k₂ ≡ sets k₁ a s → b ≡ a + length s → k₃ ≡ sets k₂ b r → c ≡ b + length r → k₄ ≡ sets k₃ c x → d ≡ c + length x
@@ -68,84 +66,54 @@ put_four z k₁ k₂ k₃ k₄ l s r x a b c d e₁ ea e₂ eb e₃ ec e₄ ed =
     (omega arith, e₄ ∙ (ap₂ (λ (q : Bytes) (j : ℕ). sets q j x) w k ∙ sym (sets-append z 0 y x)))
 
 -- delivery
-pub given-long : (x out : Bytes) → 255 < length_or256 (length x) → given_by Long out ≡ given (made_form x) out
-unfolding length_or256 given_by given made_form short_form
-given-long x out h = go (leb (length x) 255) refl h
-  where
-    go : (b : Bool) → leb (length x) 255 ≡ b → 255 < cond b (length x) 256 → given_by Long out ≡ given (cond (leb (length x) 255) (form x) (refusal 9 0 0)) out
-    go true e k = let l : length x ≤ 255 = leb-true _ _ e in absurd (omega arith)
-    go false e k = rw e
+module _ (x out : Bytes) where
+  pub given-long : None ≡ short_length (length x) → given_by (Err Overlong) out ≡ given (made_form x) out
+  unfolding given_by given made_form short_form
+  given-long h = rw (lt-leb (length x) 255 (short-none _ h))
 
-pub given-short : (x out : Bytes) → length_or256 (length x) ≤ 255 → length out < length_or256 (length x) → given_by Short out ≡ given (made_form x) out
-unfolding length_or256 given_by given made_form short_form
-given-short x out h k = go (leb (length x) 255) refl h k
-  where
-    go : (b : Bool) → leb (length x) 255 ≡ b → cond b (length x) 256 ≤ 255 → length out < cond b (length x) 256 → given_by Short out ≡ given (cond (leb (length x) 255) (form x) (refusal 9 0 0)) out
-    go true e j i = rw (e, lt-leb (length x) (length out) i)
-    go false e j i = absurd (omega arith)
+  module _ (n : ℕ) (h : Some n ≡ short_length (length x)) where
+    pub given-short : length out < n → given_by (Err Short) out ≡ given (made_form x) out
+    unfolding given_by given made_form short_form
+    given-short k = let s = short-some _ _ h in rw (le-leb (length x) 255 s.1, lt-leb (length x) (length out) (omega arith))
 
-pub given-done : (x out out' : Bytes) (n : ℕ) → length_or256 (length x) ≤ 255 → length_or256 (length x) ≤ length out → n ≡ length x → out' ≡ sets out 0 x → given_by (Done n) out' ≡ given (made_form x) out
-unfolding length_or256 given_by given made_form short_form
-given-done x out out' n h k e w = go (leb (length x) 255) refl h k
-  where
-    go : (b : Bool) → leb (length x) 255 ≡ b → cond b (length x) 256 ≤ 255 → cond b (length x) 256 ≤ length out → given_by (Done n) out' ≡ given (cond (leb (length x) 255) (form x) (refusal 9 0 0)) out
-    go true f j i =
+    pub given-done : (m : ℕ) (out' : Bytes) → n ≤ length out → m ≡ length x → out' ≡ sets out 0 x → given_by (Ok m) out' ≡ given (made_form x) out
+    unfolding given_by given made_form short_form
+    given-done m out' k e w =
+        let s = short-some _ _ h in
         let z : 0 + length x ≡ length x = omega arith in
         let q : out' ≡ x ++ drop (length x) out = w ∙ (sets-eq x out 0 (omega arith) ∙ ap (λ (m : ℕ). x ++ drop m out) z) in
-        rw (f, le-leb (length x) (length out) i, e, q)
-    go false f j i = absurd (omega arith)
+        rw (le-leb (length x) 255 s.1, le-leb (length x) (length out) (omega arith), e, q)
 
 -- room for the parts, by the length that was found
-pub room-four : (l s r x out : Bytes) (n : ℕ) → n ≡ length_or256 (length (bytes_of (parts3 l s r) x)) → n ≤ 255 → n ≤ length out → length l + length s + length r + length x ≤ length out
-unfolding length_or256
-room-four l s r x out n e h k = go (leb (length (bytes_of (parts3 l s r) x)) 255) e
-  where
-    go : (b : Bool) → n ≡ cond b (length (bytes_of (parts3 l s r) x)) 256 → length l + length s + length r + length x ≤ length out
-    go true q = let m = form-length l s r x in omega (arith, m)
-    go false q = absurd (omega arith)
-
-pub over : {k m n : ℕ} → m ≡ n → k < m → k < n
-over e h = rw (← e) h
-
-pub upto : {k m n : ℕ} → m ≡ n → m ≤ k → n ≤ k
-upto e h = rw (← e) h
+pub room-four : (l s r x out : Bytes) (n : ℕ) → Some n ≡ short_length (length (bytes_of (parts3 l s r) x)) → n ≤ length out → length l + length s + length r + length x ≤ length out
+room-four l s r x out n h k = let e = short-some _ _ h in let m = form-length l s r x in omega arith
 
 -- the maximised form itself
 pub made-whole : (b : Bool) (L x : Bytes) (q : Parts) → b ≡ false → made_form (bytes_of q x) ≡ made_of b L x q
 unfolding made_form made_of kept_if
 made-whole b L x q e = rw e
 
-short-yes : (x : Bytes) → length_or256 (length x) ≤ 255 → leb (length x) 255 ≡ true
-unfolding length_or256
-short-yes x h = bool_cases (leb (length x) 255) (λ e. e) (λ e. let k : 256 ≤ 255 = rw e at h in absurd (omega arith))
+pub made-long : (b : Bool) (L x : Bytes) (q : Parts) (out : Bytes) → None ≡ short_length (length (bytes_of q x)) → given_by (Err Overlong) out ≡ given (made_of b L x q) out
+unfolding made_of short_form given_by given
+made-long b L x q out h = rw (lt-leb (length (bytes_of q x)) 255 (short-none _ h))
 
-pub made-long : (b : Bool) (L x : Bytes) (q : Parts) (out : Bytes) → 255 < length_or256 (length (bytes_of q x)) → given_by Long out ≡ given (made_of b L x q) out
-unfolding length_or256 made_of short_form given_by given
-made-long b L x q out h =
-    bool_cases (leb (length (bytes_of q x)) 255)
-    (λ e. let l : length (bytes_of q x) ≤ 255 = leb-true _ _ e in let k : 255 < length (bytes_of q x) = rw e at h in absurd (omega arith))
-    (λ e. rw e)
+-- the minimised form is no longer
+minimal-shorter : (L : Bytes) (q : Parts) (x : Bytes) → length (bytes_of (minimal_parts L q) x) ≤ length (bytes_of q x)
+unfolding minimal_parts
+minimal-shorter L q x =
+    go (fits_parts L q (parts3 q.language [] [])) (fits_parts L q (parts3 q.language [] q.region)) (fits_parts L q (parts3 q.language q.script []))
+  where
+    go : (a b c : Bool) → length (bytes_of (cond a (parts3 q.language [] []) (cond b (parts3 q.language [] q.region) (cond c (parts3 q.language q.script []) q))) x) ≤ length (bytes_of q x)
+    go true b c = let m = form-length q.language [] [] x in let n = form-length q.language q.script q.region x in omega arith
+    go false true c = let m = form-length q.language [] q.region x in let n = form-length q.language q.script q.region x in omega arith
+    go false false true = let m = form-length q.language q.script [] x in let n = form-length q.language q.script q.region x in omega arith
+    go false false false = omega arith
 
-kept-shorter : (k : Kept) (q : Parts) (x : Bytes) → length (bytes_of (kept_parts k q) x) ≤ length (bytes_of q x)
-unfolding kept_parts
-kept-shorter Neither q x = let a = form-length q.language [] [] x in let b = form-length q.language q.script q.region x in omega arith
-kept-shorter Region q x = let a = form-length q.language [] q.region x in let b = form-length q.language q.script q.region x in omega arith
-kept-shorter Script q x = let a = form-length q.language q.script [] x in let b = form-length q.language q.script q.region x in omega arith
-kept-shorter Both q x = omega arith
-
--- the first trial that fits
-pub made_kept : (b : Bool) (L x : Bytes) (q : Parts) (k : Kept) → b ≡ true → length_or256 (length (bytes_of q x)) ≤ 255 → kept_parts k q ≡ minimal_parts L q
-    → made_form (bytes_of (kept_parts k q) x) ≡ made_of b L x q
+pub made-minimal : (b : Bool) (L x : Bytes) (q k : Parts) → b ≡ true → length (bytes_of q x) ≤ 255 → k ≡ minimal_parts L q → made_form (bytes_of k x) ≡ made_of b L x q
 unfolding made_form made_of kept_if short_form
-made_kept b L x q k t h e =
-    let y = short-yes (bytes_of q x) h in
-    let n : length (bytes_of q x) ≤ 255 = leb-true _ _ y in
-    let m = kept-shorter k q x in
-    let z : leb (length (bytes_of (kept_parts k q) x)) 255 ≡ true = le-leb (length (bytes_of (kept_parts k q) x)) 255 (omega arith) in
-    rw (z, y, t, e)
-
-pub kept-is : (L : Bytes) (q : Parts) (k m : Kept) → kept_parts k q ≡ minimal_parts L q → k ≡ m → kept_parts m q ≡ minimal_parts L q
-kept-is L q k m e f = rw (← f) e
+made-minimal b L x q k t h e =
+    let m = minimal-shorter L q x in
+    rw (e, t, le-leb (length (bytes_of q x)) 255 h, le-leb (length (bytes_of (minimal_parts L q) x)) 255 (omega arith))
 
 pub then-given : (r : Given) (m n : Made) (out : Bytes) → r ≡ given m out → m ≡ n → r ≡ given n out
 then-given r m n out e f = e ∙ ap (λ (x : Made). given x out) f
@@ -155,30 +123,25 @@ pub known-are : (l s r s' r' : Bytes) → s' ≡ known_part (text "-Zzzz") s →
 unfolding known_parts
 known-are l s r s' r' e f = rw (e, f)
 
-module _ (b : Bool) (L x : Bytes) (p p' : Parts) (v : Bytes) (f : Bool) (k : p' ≡ known_parts p) (e : filled_by p' v f ≡ fill_parts L p') where
-  pub made_none : (out : Bytes) → f ≡ false → given_by NoRow out ≡ given (made_parts b L x p) out
-  unfolding made_parts made_filled given_by given filled_by
-  made_none out t =
-      let z : fill_parts L (known_parts p) ≡ none = ap (fill_parts L) (sym k) ∙ (sym e ∙ rw t) in
-      rw z
+pub room-known : (L : Bytes) (p p' : Parts) → p' ≡ known_parts p → RoomFor L p → HasRoom p'
+room-known L p p' k q = subst HasRoom (sym k) q.first
 
-  pub filled-some : f ≡ true → fill_parts L (known_parts p) ≡ some (over_parts p' (cut_parts v))
-  unfolding filled_by
-  filled-some t = ap (fill_parts L) (sym k) ∙ (sym e ∙ rw t)
+pub room-again : (L : Bytes) (p p' q : Parts) → p' ≡ known_parts p → RoomFor L p → (HasRoom p' → some q ≡ fill_parts L p') → HasRoom q
+room-again L p p' q k r f = r.again q (ap (fill_parts L) (sym k) ∙ sym (f (room-known L p p' k r)))
 
-pub made_some : (b : Bool) (L x : Bytes) (p q : Parts) → fill_parts L (known_parts p) ≡ some q → made_of b L x q ≡ made_parts b L x p
+-- the length that was asked for, by whether there is one
+pub none-of : (o : Option ℕ) (m : ℕ) → o ≡ short_length m → is_some o ≡ false → None ≡ short_length m
+none-of None m e f = e
+none-of (Some n) m e f = absurd (cc)
+
+pub some-of : (o : Option ℕ) (m : ℕ) → o ≡ short_length m → is_some o ≡ true → m ≤ 255
+some-of None m e f = absurd (cc)
+some-of (Some n) m e f = (short-some m n e).1
+
+pub made_none : (b : Bool) (L x : Bytes) (p p' : Parts) (out : Bytes) → p' ≡ known_parts p → none ≡ fill_parts L p' → given_by (Err NoRow) out ≡ given (made_parts b L x p) out
+unfolding made_parts made_filled given_by given
+made_none b L x p p' out k e = rw (← k) (rw (← e))
+
+pub made_some : (b : Bool) (L x : Bytes) (p p' q : Parts) → p' ≡ known_parts p → some q ≡ fill_parts L p' → made_of b L x q ≡ made_parts b L x p
 unfolding made_parts made_filled
-made_some b L x p q e = rw e
-
--- the parts that code takes from the identifier or the row
-pub over-are : (p : Parts) (v l s r : Bytes) (a b : ℕ) → cut_at v a b ≡ cut_parts v → l ≡ language_of p.language (take a v)
-    → s ≡ pick p.script (take (b - a) (drop a v)) → r ≡ pick p.region (take (length v - b) (drop b v)) → parts3 l s r ≡ over_parts p (cut_parts v)
-unfolding over_parts
-over-are p v l s r a b c e f g =
-    let x = language-cut v a b c in
-    let y = script-cut v a b c in
-    let z = region-cut v a b c in
-    rw (e, f, g, x, y, z)
-
-pub ready-is : (L hints : Bytes) (p q : Parts) → p ≡ q → Ready L hints q → Ready L hints p
-ready-is L hints p q e h = rw e h
+made_some b L x p p' q k e = rw (← k) (rw (← e))

@@ -2,38 +2,26 @@
 use mathlib.Core.Path.{◌≡◌, refl, sym, ap, ap₂, ◌∙◌}
 use mathlib.Core.Bool.{Bool, true, false, cond, not, ◌&&◌}
 use mathlib.Core.List.{[], ◌∷◌, ◌++◌, append-nil}
-use Prim.Native.Nat.{ℕ, ◌+◌, ◌-◌, ◌≤◌, ◌<◌}
+use mathlib.Core.Logic.{◌⊎◌, inl, inr}
+use Prim.Native.Nat.{ℕ, zero, suc, ◌+◌, ◌-◌, ◌≤◌, ◌<◌}
 use native.Mathlib.Omega.{arith}
-use native.Mathlib.Numerals.{add-one}
-use borrow.Author.Tests.{eq-eqb, ne_eqb, le-leb, lt-leb}
-use lib.Dec.{eqb, leb}
+use native.Mathlib.Nat.{le_of_suc-le-suc, not-suc-le-zero}
+use borrow.Author.Tests.{ne_eqb}
+use lib.Dec.{eqb}
 use mathlib.Core.Option.{Option, none, some}
-use lib.ListN.{length, get_or, take, drop, drop_of_length-le, length-append, length-drop}
-use lib.Seq.{take_all, take-nil, drop-cons, sets, sets-eq, take-append_seam}
+use lib.ListN.{length, take, drop, drop_of_length-le, length-append, length-drop}
+use lib.Seq.{take_all, take-nil, sets, sets-eq, take-append_seam}
 use Rattle.standard.specs.Tag.{same, pick, present}
 use Rattle.standard.specs.Identifier.{und}
 use Rattle.standard.specs.Delivery.{Bytes}
 use Rattle.standard.specs.Table.{lookup, rows, located}
-use Rattle.standard.proofs.General.{clash, and-true, bool_cases}
-use Rattle.table.specs.Lines.{value_of, value_or, is_found}
-use Rattle.table.proofs.Lines.{value-located, found-located}
+use Rattle.standard.proofs.General.{clash, and-true, bool_cases, le-or-lt}
+use Rattle.table.specs.Lines.{value_if}
+use Rattle.table.proofs.Lines.{lookup-located}
+use Rattle.byte_string.specs.Strings.{end_of}
+use Rattle.byte_string.proofs.Ends.{end-past, ends, end-le}
 use Rattle.byte_string.proofs.Stores.{sets-append}
-use Rattle.likely.specs.Kept.{kept_parts}
-use Rattle.likely.specs.declared.lsr.Kept.TheVariants.{Neither, Region, Script, Both}
-use Rattle.likely.specs.Parts.{Parts, Ready, dash_from, dash, cut_at, cut_parts, over_parts, over_value, fill_parts, filled_by, fits_value, fits_parts, minimal_parts, known_part, language_of, complete_parts, parts3, or_value, shorter_value, row_value}
-
--- the walk to a '-'
-pub dash-more : (v : Bytes) (i : ℕ) → i < length v → (get_or v i 0 ≡ 45 → ⊥) → dash v i ≡ dash v (i + 1)
-unfolding dash dash_from
-dash-more v i h n = rw (add-one, drop-cons v i 0 h) (rw (ne_eqb (get_or v i 0) 45 n, dash_from) (rw add-one))
-
-pub dash-here : (v : Bytes) (i : ℕ) → i < length v → get_or v i 0 ≡ 45 → dash v i ≡ i
-unfolding dash dash_from
-dash-here v i h e = rw (drop-cons v i 0 h) (rw (eq-eqb (get_or v i 0) 45 e, dash_from))
-
-pub dash-off : (v : Bytes) (i : ℕ) → length v ≤ i → dash v i ≡ i
-unfolding dash dash_from
-dash-off v i h = rw (drop_of_length-le v h)
+use Rattle.likely.specs.Parts.{Parts, joined_parts, dash_from, dash, cut_parts, over_parts, over_value, fill_parts, fits_value, fits_parts, minimal_parts, known_part, language_of, complete_parts, parts3, or_value, shorter_value, row_value}
 
 -- choices
 pub pick-none : (x y : Bytes) → length x ≡ 0 → y ≡ pick x y
@@ -63,20 +51,22 @@ unfolding language_of
 language-kept l v e t = rw (← e, t)
 
 -- what is missing
-pub no-language : (l s r : Bytes) {b : Bool} → b ≡ same l und → b ≡ true → false ≡ complete_parts (parts3 l s r)
+present-is : (x : Bytes) → present x ≡ not (eqb (length x) 0)
+unfolding present
+present-is [] = refl
+present-is (b ∷ bs) = sym (ap not (ne_eqb (length (b ∷ bs)) 0 (λ z. omega arith)))
+
+-- what `&&` gives, by which of its sides ran
+pub and-last : (a x y : Bool) → a ≡ true → x ≡ y → x ≡ (a && y)
+and-last a x y e f = f ∙ sym (rw e)
+
+pub and-first : (a y : Bool) → a ≡ false → false ≡ (a && y)
+and-first a y e = sym (rw e)
+
+pub whole-is : (l s r : Bytes) (b : Bool) → b ≡ same l und → ((not b && not (eqb (length s) 0)) && not (eqb (length r) 0)) ≡ complete_parts (parts3 l s r)
 unfolding complete_parts
-no-language l s r e t = rw (← e, t)
-
-pub no-script : (l s r : Bytes) {b : Bool} → b ≡ same l und → b ≡ false → length s ≡ 0 → false ≡ complete_parts (parts3 l s r)
-unfolding complete_parts present
-no-script l [] r e t n = rw (← e, t)
-no-script l (c ∷ cs) r e t n = absurd (omega arith)
-
-pub by-region : (l s r : Bytes) {b : Bool} → b ≡ same l und → b ≡ false → (length s ≡ 0 → ⊥) → not (eqb (length r) 0) ≡ complete_parts (parts3 l s r)
-unfolding complete_parts present
-by-region l [] r e t n = absurd (n refl)
-by-region l (c ∷ cs) [] e t n = rw (← e, t)
-by-region l (c ∷ cs) (d ∷ ds) e t n = rw (← e, t) (rw (ne_eqb (length (d ∷ ds)) 0 (λ z. omega arith)))
+whole-is l s r true e = rw (← e)
+whole-is l s r false e = rw (← e, present-is s, present-is r)
 
 -- three parts put one behind the other make the key
 pub put_three : (z k₁ k₂ k₃ l s r : Bytes) (a b n : ℕ) → k₁ ≡ sets z 0 l → a ≡ 0 + length l → k₂ ≡ sets k₁ a s → b ≡ a + length s → k₃ ≡ sets k₂ b r → n ≡ b + length r
@@ -89,176 +79,145 @@ put_three z k₁ k₂ k₃ l s r a b n e₁ ea e₂ eb e₃ en h hz =
     let m : n ≡ length x = omega arith in
     ap₂ take m (w ∙ sets-eq x z 0 (omega arith)) ∙ take-append_seam x (drop (0 + length x) z)
 
--- a part of the lent table, by the key that stands in a buffer
-pub value-by : (t k x v : Bytes) → v ≡ value_of t (located t x) → x ≡ k → v ≡ value_or (lookup (rows t) k)
-value-by t k x v e q = e ∙ (ap (λ (y : Bytes). value_of t (located t y)) q ∙ value-located t k)
-
-pub found-by : (t k x : Bytes) (f : Bool) → f ≡ (located t x).found → x ≡ k → f ≡ is_found (lookup (rows t) k)
-found-by t k x f e q = e ∙ (ap (λ (y : Bytes). (located t y).found) q ∙ found-located t k)
+-- a value of the lent table, by the key that stands in a buffer
+pub value-by : (t k x : Bytes) (o : Option Bytes) → o ≡ value_if t (located t x) → x ≡ k → o ≡ lookup (rows t) k
+value-by t k x o e q = e ∙ sym (lookup-located t x) ∙ ap (lookup (rows t)) q
 
 abbrev pub blank : Bytes
 blank = 0 ∷ 0 ∷ 0 ∷ 0 ∷ 0 ∷ 0 ∷ 0 ∷ 0 ∷ 0 ∷ 0 ∷ 0 ∷ 0 ∷ 0 ∷ 0 ∷ 0 ∷ 0 ∷ 0 ∷ 0 ∷ 0 ∷ 0 ∷ 0 ∷ 0 ∷ 0 ∷ 0 ∷ 0 ∷ 0 ∷ 0 ∷ 0 ∷ 0 ∷ 0 ∷ 0 ∷ 0 ∷ []
 
--- An answer's value and its yes or no.
-pub record Says (o : Option Bytes) (v : Bytes) (f : Bool) : Type 0 where
-  pub value : v ≡ value_or o
-  pub yes : f ≡ is_found o
+-- the first that was found, or the next
+or-first : (o p : Option Bytes) (v : Bytes) → some v ≡ o → some v ≡ or_value o p
+unfolding or_value
+or-first o p v e = rw (← e)
 
--- two promises of a sorted table, from one
-pub says : {S : Type 0} (o : Option Bytes) (v : Bytes) (f : Bool) → (S → Says o v f) → (S → v ≡ value_or o) × (S → f ≡ is_found o)
-says o v f h = ((λ s. (h s).value), (λ s. (h s).yes))
+or-next : (o p : Option Bytes) → none ≡ o → or_value o p ≡ p
+unfolding or_value
+or-next o p e = rw (← e)
+
+or-twice : (o : Option Bytes) → or_value o o ≡ o
+unfolding or_value
+or-twice none = refl
+or-twice (some v) = refl
+
+no_bytes_lem : (x : Bytes) → length x ≡ 0 → x ≡ []
+no_bytes_lem [] e = refl
+no_bytes_lem (b ∷ bs) e = absurd (omega arith)
 
 module _ (L l s r : Bytes) where
   abbrev look : Bytes → Option Bytes
   look k = lookup (rows L) k
 
-  -- the first was found, or was not
-  or-first : (o p : Option Bytes) (v : Bytes) (f : Bool) → Says o v f → f ≡ true → Says (or_value o p) v f
-  unfolding or_value is_found
-  or-first none p v f h e = clash {b = f} e h.yes
-  or-first (some w) p v f h e = record { value = h.value; yes = h.yes }
+  by-script : look (joined_parts (parts3 l s [])) ≡ look (l ++ s)
+  unfolding joined_parts
+  by-script = ap (λ (x : Bytes). look (l ++ x)) (append-nil s)
 
-  or-next : (o p : Option Bytes) (v : Bytes) (f : Bool) → Says o v f → f ≡ false → or_value o p ≡ p
-  unfolding or_value is_found
-  or-next none p v f h e = refl
-  or-next (some w) p v f h e = clash {b = f} h.yes e
+  by-region : look (joined_parts (parts3 l [] r)) ≡ look (l ++ r)
+  unfolding joined_parts
+  by-region = refl
 
-  at_key : (k k' v : Bytes) (f : Bool) → k ≡ k' → v ≡ value_or (look k) → f ≡ is_found (look k) → Says (look k') v f
-  at_key k k' v f e a b = record { value = a ∙ ap (λ (x : Bytes). value_or (look x)) e; yes = b ∙ ap (λ (x : Bytes). is_found (look x)) e }
+  alone : look (joined_parts (parts3 l [] [])) ≡ look l
+  unfolding joined_parts
+  alone = ap look (append-nil l)
 
-  module _ (z v w u : Bytes) (f g h : Bool) (e : z ≡ [])
-      (a : v ≡ value_or (look (l ++ (s ++ z)))) (b : f ≡ is_found (look (l ++ (s ++ z)))) where
-    by-script : Says (look (l ++ s)) v f
-    by-script = at_key (l ++ (s ++ z)) (l ++ s) v f (ap (λ (x : Bytes). l ++ (s ++ x)) e ∙ ap (λ (x : Bytes). l ++ x) (append-nil s)) a b
+  pub shorter-first : (v : Bytes) → some v ≡ look (joined_parts (parts3 l s [])) → some v ≡ shorter_value L (parts3 l s r)
+  unfolding shorter_value
+  shorter-first v e = or-first _ _ v (e ∙ by-script)
 
-    pub shorter-first : f ≡ true → Says (shorter_value L (parts3 l s r)) v f
+  module _ (a : none ≡ look (joined_parts (parts3 l s []))) where
+    pub shorter-second : (v : Bytes) → some v ≡ look (joined_parts (parts3 l [] r)) → some v ≡ shorter_value L (parts3 l s r)
     unfolding shorter_value
-    shorter-first t = or-first _ _ v f by-script t
+    shorter-second v e = or-first _ _ v (e ∙ by-region) ∙ sym (or-next _ _ (a ∙ by-script))
 
-    module _ (t : f ≡ false) (c : w ≡ value_or (look (l ++ (z ++ r)))) (d : g ≡ is_found (look (l ++ (z ++ r)))) where
-      by-region' : Says (look (l ++ r)) w g
-      by-region' = at_key (l ++ (z ++ r)) (l ++ r) w g (ap (λ (x : Bytes). l ++ (x ++ r)) e) c d
+    pub shorter-third : (o : Option Bytes) → none ≡ look (joined_parts (parts3 l [] r)) → o ≡ look (joined_parts (parts3 l [] [])) → o ≡ shorter_value L (parts3 l s r)
+    unfolding shorter_value
+    shorter-third o b e = e ∙ alone ∙ sym (or-next _ _ (a ∙ by-script) ∙ or-next _ _ (b ∙ by-region))
 
-      pub shorter-second : g ≡ true → Says (shorter_value L (parts3 l s r)) w g
-      unfolding shorter_value
-      shorter-second q = rw (or-next _ _ v f by-script t) (or-first _ _ w g by-region' q)
+  pub row-first : (v : Bytes) → some v ≡ look (joined_parts (parts3 l s r)) → some v ≡ row_value L (parts3 l s r)
+  unfolding row_value joined_parts
+  row-first v e = or-first _ _ v e
 
-      pub shorter-third : g ≡ false → u ≡ value_or (look (l ++ (z ++ z))) → h ≡ is_found (look (l ++ (z ++ z))) → Says (shorter_value L (parts3 l s r)) u h
-      unfolding shorter_value
-      shorter-third q x y =
-          rw (or-next _ _ v f by-script t, or-next _ _ w g by-region' q)
-          (at_key (l ++ (z ++ z)) l u h (ap (λ (k : Bytes). l ++ (k ++ k)) e ∙ append-nil l) x y)
-
-  is_none : (o : Option Bytes) (v : Bytes) (f : Bool) → Says o v f → f ≡ false → o ≡ none
-  unfolding is_found
-  is_none none v f h e = refl
-  is_none (some w) v f h e = clash {b = f} h.yes e
-
-  or-twice : (o : Option Bytes) → or_value o o ≡ o
-  unfolding or_value
-  or-twice none = refl
-  or-twice (some v) = refl
-
-  no_bytes_lem : (x : Bytes) → length x ≡ 0 → x ≡ []
-  no_bytes_lem [] e = refl
-  no_bytes_lem (b ∷ bs) e = absurd (omega arith)
-
-  module _ (v : Bytes) (f : Bool) (a : v ≡ value_or (look (l ++ (s ++ r)))) (b : f ≡ is_found (look (l ++ (s ++ r)))) where
-    by_all : Says (look (l ++ (s ++ r))) v f
-    by_all = record { value = a; yes = b }
-
-    pub row_first : f ≡ true → Says (row_value L (parts3 l s r)) v f
-    unfolding row_value
-    row_first t = or-first _ _ v f by_all t
-
-    pub row-shorter : f ≡ false → (w : Bytes) (g : Bool) → w ≡ value_or (shorter_value L (parts3 l s r)) → g ≡ is_found (shorter_value L (parts3 l s r)) → Says (row_value L (parts3 l s r)) w g
-    unfolding row_value
-    row-shorter t w g c d = rw (or-next _ _ v f by_all t) (record { value = c; yes = d })
+  module _ (a : none ≡ look (joined_parts (parts3 l s r))) (o : Option Bytes) where
+    pub row-shorter : o ≡ shorter_value L (parts3 l s r) → o ≡ row_value L (parts3 l s r)
+    unfolding row_value joined_parts
+    row-shorter e = e ∙ sym (or-next _ _ a)
 
     -- the language alone, where script or region is missing
-    alone : (k w : Bytes) (g : Bool) → k ≡ [] → w ≡ value_or (look (l ++ (k ++ k))) → g ≡ is_found (look (l ++ (k ++ k))) → Says (look l) w g
-    alone k w g e c d = at_key (l ++ (k ++ k)) l w g (ap (λ (x : Bytes). l ++ (x ++ x)) e ∙ append-nil l) c d
+    pub row-no-script : length s ≡ 0 → o ≡ look (joined_parts (parts3 l [] [])) → o ≡ row_value L (parts3 l s r)
+    unfolding shorter_value joined_parts
+    row-no-script n e =
+        let z = no_bytes_lem s n in
+        let m : none ≡ look (l ++ r) = a ∙ ap (λ (x : Bytes). look (l ++ (x ++ r))) z in
+        let k : look (l ++ s) ≡ look l = ap look (ap (λ (x : Bytes). l ++ x) z ∙ append-nil l) in
+        row-shorter (e ∙ alone ∙ sym (ap₂ or_value k (or-next (look (l ++ r)) (look l) m) ∙ or-twice (look l)))
 
-    pub row-no-script : f ≡ false → length s ≡ 0 → (w : Bytes) (g : Bool) → w ≡ value_or (look (l ++ (s ++ s))) → g ≡ is_found (look (l ++ (s ++ s))) → Says (row_value L (parts3 l s r)) w g
-    unfolding row_value shorter_value or_value
-    row-no-script t n w g c d =
-        let e = no_bytes_lem s n in
-        let m : look (l ++ r) ≡ none = ap (λ (x : Bytes). look (l ++ (x ++ r))) (sym e) ∙ is_none _ v f by_all t in
-        let k : look (l ++ s) ≡ look l = ap look (ap (λ (x : Bytes). l ++ x) e ∙ append-nil l) in
-        rw (or-next _ (or_value (look (l ++ s)) (or_value (look (l ++ r)) (look l))) v f by_all t, m, k, or-twice (look l)) (alone s w g e c d)
+    pub row-no-region : length r ≡ 0 → o ≡ look (joined_parts (parts3 l [] [])) → o ≡ row_value L (parts3 l s r)
+    unfolding shorter_value joined_parts
+    row-no-region n e =
+        let z = no_bytes_lem r n in
+        let m : none ≡ look (l ++ s) = a ∙ ap look (ap (λ (x : Bytes). l ++ (s ++ x)) z ∙ ap (λ (x : Bytes). l ++ x) (append-nil s)) in
+        let k : look (l ++ r) ≡ look l = ap look (ap (λ (x : Bytes). l ++ x) z ∙ append-nil l) in
+        row-shorter (e ∙ alone ∙ sym (or-next (look (l ++ s)) (or_value (look (l ++ r)) (look l)) m ∙ ap (λ (x : Option Bytes). or_value x (look l)) k ∙ or-twice (look l)))
 
-    pub row-no-region : f ≡ false → length r ≡ 0 → (w : Bytes) (g : Bool) → w ≡ value_or (look (l ++ (r ++ r))) → g ≡ is_found (look (l ++ (r ++ r))) → Says (row_value L (parts3 l s r)) w g
-    unfolding row_value shorter_value or_value
-    row-no-region t n w g c d =
-        let e = no_bytes_lem r n in
-        let m : look (l ++ s) ≡ none = ap look (ap (λ (x : Bytes). l ++ x) (sym (append-nil s) ∙ ap (λ (x : Bytes). s ++ x) (sym e))) ∙ is_none _ v f by_all t in
-        let k : look (l ++ r) ≡ look l = ap look (ap (λ (x : Bytes). l ++ x) e ∙ append-nil l) in
-        rw (or-next _ (or_value (look (l ++ s)) (or_value (look (l ++ r)) (look l))) v f by_all t, m, k, or-twice (look l)) (alone r w g e c d)
-
--- the parts of a shorter form have room too
-pub ready-script : {L hints : Bytes} (l s r z : Bytes) → z ≡ [] → Ready L hints (parts3 l s r) → Ready L hints (parts3 l s z)
-ready-script l s r z e q = record { indexed = q.indexed; short = rw e (omega (arith, q.short)) }
-
-pub ready-region : {L hints : Bytes} (l s r z : Bytes) → z ≡ [] → Ready L hints (parts3 l s r) → Ready L hints (parts3 l z r)
-ready-region l s r z e q = record { indexed = q.indexed; short = rw e (omega (arith, q.short)) }
-
-pub ready-language : {L hints : Bytes} (l s r z : Bytes) → length z ≡ 0 → Ready L hints (parts3 l s r) → Ready L hints (parts3 l z z)
-ready-language l s r z e q = record { indexed = q.indexed; short = omega (arith, q.short) }
-
--- parts that have no room in a key
-pub no_room : (L hints : Bytes) (p : Parts) {X Y : Type 0} {b : Bool} → b ≡ leb (length p.language + length p.script + length p.region) 32 → b ≡ false → (Ready L hints p → X) × (Ready L hints p → Y)
-no_room L hints p {X} {Y} e f = ((λ q. gone q), (λ q. gone q))
-  where
-    gone : {Z : Type 0} → Ready L hints p → Z
-    gone q = clash (le-leb _ _ q.short) (sym e ∙ f)
-
-pub long-language : (a b c : ℕ) → 32 < a → false ≡ leb (a + b + c) 32
-long-language a b c h = sym (lt-leb (a + b + c) 32 (omega arith))
-
-pub long-script : (a b c : ℕ) → 32 < b → false ≡ leb (a + b + c) 32
-long-script a b c h = sym (lt-leb (a + b + c) 32 (omega arith))
-
-pub long-region : (a b c : ℕ) → 32 < c → false ≡ leb (a + b + c) 32
-long-region a b c h = sym (lt-leb (a + b + c) 32 (omega arith))
-
--- A value's cuts.
-dash-from-ge : (at : ℕ) (x : Bytes) → (at ≤ dash_from at x) × (dash_from at x ≤ at + length x)
+-- A value's cuts: the code seeks the first `-` as it seeks other bytes.
+dash-suc : (at : ℕ) (x : Bytes) → dash_from (suc at) x ≡ suc (dash_from at x)
 unfolding dash_from
-dash-from-ge at [] = (omega arith, omega arith)
-dash-from-ge at (b ∷ bs) = go (eqb b 45) (dash-from-ge (at + 1) bs)
+dash-suc at [] = refl
+dash-suc at (b ∷ bs) = go (eqb b 45) (dash-suc (at + 1) bs)
   where
-    go : (t : Bool) → (at + 1 ≤ dash_from (at + 1) bs) × (dash_from (at + 1) bs ≤ at + 1 + length bs)
-        → (at ≤ elim t [ true ↦ at | false ↦ dash_from (at + 1) bs ]) × (elim t [ true ↦ at | false ↦ dash_from (at + 1) bs ] ≤ at + length (b ∷ bs))
-    go true h = (omega arith, omega arith)
-    go false h = (omega (arith, h.0), omega (arith, h.1))
+    go : (t : Bool) → dash_from (suc (at + 1)) bs ≡ suc (dash_from (at + 1) bs)
+        → elim t [ true ↦ suc at | false ↦ dash_from (suc at + 1) bs ] ≡ suc (elim t [ true ↦ at | false ↦ dash_from (at + 1) bs ])
+    go true h = refl
+    go false h = let z : suc at + 1 ≡ suc (at + 1) = omega arith in ap (λ (n : ℕ). dash_from n bs) z ∙ h
 
-dash-within : (v : Bytes) (at : ℕ) → at ≤ length v → (at ≤ dash v at) × (dash v at ≤ length v)
-unfolding dash
-dash-within v at h =
-    let k = dash-from-ge at (drop at v) in
-    let n = length-drop at v in
-    (k.0, omega (arith, k.1, n))
+dash-end : (v : Bytes) (at : ℕ) → at ≤ length v → end_of 45 v at ≡ dash v at
+unfolding dash dash_from end_of
+dash-end [] zero h = refl
+dash-end [] (suc at) h = absurd (not-suc-le-zero h)
+dash-end (x ∷ v) zero h = go (eqb x 45) (dash-end v zero (omega arith))
+  where
+    go : (t : Bool) → end_of 45 v zero ≡ dash_from zero v → cond t zero (suc (end_of 45 v zero)) ≡ elim t [ true ↦ zero | false ↦ dash_from (0 + 1) v ]
+    go true i = refl
+    go false i = ap suc i ∙ sym (dash-suc 0 v)
+dash-end (x ∷ v) (suc at) h = ap suc (dash-end v at (le_of_suc-le-suc h)) ∙ sym (dash-suc at (drop at v))
 
-pub record Cutting (v : Bytes) (a b : ℕ) : Type 0 where
+dash-off : (v : Bytes) (i : ℕ) → length v ≤ i → dash v i ≡ i
+unfolding dash dash_from
+dash-off v i h = rw (drop_of_length-le v h)
+
+pub record Cuts (v : Bytes) (a b : ℕ) : Type 0 where
   pub first : a ≤ b
   pub second : b ≤ length v
-  pub are : cut_at v a b ≡ cut_parts v
+  pub are : parts3 (take a v) (take (b - a) (drop a v)) (take (length v - b) (drop b v)) ≡ cut_parts v
 
-pub cut_short : (v : Bytes) (a : ℕ) → a ≡ dash v 0 → length v ≤ a → Cutting v a a
-unfolding cut_at cut_parts
-cut_short v a e h =
-    let k = dash-within v 0 (omega arith) in
-    let n : dash v (a + 1) ≡ a + 1 = dash-off v (a + 1) (omega arith) in
-    let l : length v ≤ a + 1 = omega arith in
-    let d : drop a v ≡ [] = drop_of_length-le v h in
-    let m : drop (a + 1) v ≡ [] = drop_of_length-le v l in
-    record { first = omega arith; second = omega (arith, k.1); are = rw (← e) (rw (n, d, m, take-nil (a - a), take-nil (a + 1 - a))) }
+pub cuts : (v : Bytes) (a b : ℕ) → a ≡ end_of 45 v 0 → b ≡ end_of 45 v (a + 1) → Cuts v a b
+unfolding cut_parts
+cuts v a b e f = go (le-or-lt (length v) a)
+  where
+    d : a ≡ dash v 0
+    d = e ∙ dash-end v 0 (omega arith)
 
-pub cut-long : (v : Bytes) (a b : ℕ) → a ≡ dash v 0 → a < length v → b ≡ dash v (a + 1) → Cutting v a b
-unfolding cut_at cut_parts
-cut-long v a b e h f =
-    let k = dash-within v (a + 1) (omega arith) in
-    record { first = omega (arith, k.0); second = omega (arith, k.1); are = rw (← e) (rw (← f)) }
+    w : drop b v ≡ take (length v - b) (drop b v)
+    w = sym (take_all (length v - b) (drop b v) (omega (arith, length-drop b v)))
+
+    low : a ≤ length v
+    low = rw e (end-le 45 v 0)
+
+    go : (length v ≤ a) ⊎ (a < length v) → Cuts v a b
+    go (inr h) =
+        let k = ends 45 v (a + 1) b f (omega arith) in
+        record { first = let l = k.low in omega arith; second = k.high; are = rw (← d, ← w) (rw (f ∙ dash-end v (a + 1) (omega arith))) }
+    go (inl h) =
+        let z : a ≡ length v = omega (arith, low) in
+        let y : b ≡ length v = f ∙ end-past 45 v (a + 1) (omega arith) in
+        let n : dash v (a + 1) ≡ a + 1 = dash-off v (a + 1) (omega arith) in
+        record {
+          first = omega arith;
+          second = omega arith;
+          are =
+              rw (← d)
+              (rw (n, drop_of_length-le v h, drop_of_length-le v (let q : length v ≤ b = omega arith in q), drop_of_length-le v (let q : length v ≤ a + 1 = omega arith in q), take-nil (b - a), take-nil (a + 1 - a), take-nil (length v - b)));
+        }
 
 -- parts completed by a value, or complete already
 pick-there : (x y : Bytes) → present x ≡ true → pick x y ≡ x
@@ -274,92 +233,54 @@ over-complete p q e =
     let l : same p.language und ≡ false = bool_cases (same p.language und) (λ t. clash {b = true} refl (sym h.0 ∙ ap not t)) (λ t. t) in
     rw (l, pick-there p.script q.script k.0, pick-there p.region q.region k.1)
 
-pub filled-whole : (L : Bytes) (p : Parts) {b : Bool} → b ≡ complete_parts p → b ≡ true → filled_by p [] true ≡ fill_parts L p
-unfolding filled_by fill_parts
-filled-whole L p e t = rw (← e, t) (ap some (over-complete p (cut_parts []) (sym e ∙ t)))
+pub filled-whole : (L : Bytes) (p : Parts) {b : Bool} → b ≡ complete_parts p → b ≡ true → some p ≡ fill_parts L p
+unfolding fill_parts
+filled-whole L p e t = rw (← e, t)
 
-pub filled_row : (L : Bytes) (p : Parts) (v : Bytes) (f : Bool) {b : Bool} → b ≡ complete_parts p → b ≡ false → Says (row_value L p) v f → filled_by p v f ≡ fill_parts L p
-unfolding filled_by fill_parts over_value is_found value_or
-filled_row L p v f e t h = rw (← e, t) (go (row_value L p) h)
-  where
-    go : (o : Option Bytes) → Says o v f → cond f (some (over_parts p (cut_parts v))) none ≡ over_value p o
-    go none k = rw k.yes
-    go (some w) k = rw (k.yes, k.value)
+module _ (L : Bytes) (p : Parts) {b : Bool} (e : b ≡ complete_parts p) (t : b ≡ false) where
+  pub filled_none : none ≡ row_value L p → none ≡ fill_parts L p
+  unfolding fill_parts over_value
+  filled_none h = rw (← e, t) (rw (← h))
+
+  pub filled_row : (v : Bytes) (c q : Parts) → some v ≡ row_value L p → c ≡ cut_parts v → q ≡ over_parts p c → some q ≡ fill_parts L p
+  unfolding fill_parts over_value
+  filled_row v c q h k j = rw (← e, t) (rw (← h, j, k))
+
+-- the parts that code takes from the identifier or the row
+pub over-are : (p c : Parts) (l s r : Bytes) → l ≡ language_of p.language c.language → s ≡ pick p.script c.script → r ≡ pick p.region c.region → parts3 l s r ≡ over_parts p c
+unfolding over_parts
+over-are p c l s r e f g = rw (e, f, g)
 
 -- a trial: no row, another script, or by the region
-pub misfit-row : (L : Bytes) (m p : Parts) (v : Bytes) (f : Bool) → Says (row_value L p) v f → f ≡ false → false ≡ fits_parts L m p
-unfolding fits_parts fits_value is_found
-misfit-row L m p v f h t = go (row_value L p) h
-  where
-    go : (o : Option Bytes) → Says o v f → false ≡ fits_value m p o
-    go none k = refl
-    go (some w) k = clash {b = f} k.yes t
+pub misfit-row : (L : Bytes) (m p : Parts) → none ≡ row_value L p → false ≡ fits_parts L m p
+unfolding fits_parts fits_value
+misfit-row L m p h = rw (← h)
 
-fits_by : (L : Bytes) (m p : Parts) (v : Bytes) (f : Bool) → Says (row_value L p) v f → f ≡ true
-    → fits_parts L m p ≡ (same (pick p.script (cut_parts v).script) m.script && same (pick p.region (cut_parts v).region) m.region)
-unfolding fits_parts fits_value is_found value_or
-fits_by L m p v f h t = go (row_value L p) h
-  where
-    go : (o : Option Bytes) → Says o v f → fits_value m p o ≡ (same (pick p.script (cut_parts v).script) m.script && same (pick p.region (cut_parts v).region) m.region)
-    go none k = clash {b = f} t k.yes
-    go (some w) k = rw k.value
+module _ (L : Bytes) (m p c : Parts) (v : Bytes) (h : some v ≡ row_value L p) (k : c ≡ cut_parts v) (s r : Bytes) (e : s ≡ pick p.script c.script) {b : Bool} (a : b ≡ same s m.script) where
+  pub misfit-script : b ≡ false → b ≡ fits_parts L m p
+  unfolding fits_parts fits_value
+  misfit-script t = rw (← h) (rw (← k, ← e, ← a, t))
 
-pub misfit-script : (L : Bytes) (m p : Parts) (v s : Bytes) (f : Bool) {b : Bool} → Says (row_value L p) v f → f ≡ true → s ≡ (cut_parts v).script
-    → b ≡ same (pick p.script s) m.script → b ≡ false → false ≡ fits_parts L m p
-misfit-script L m p v s f h t e a q =
-    sym (fits_by L m p v f h t ∙ ap (λ (x : Bool). x && same (pick p.region (cut_parts v).region) m.region) (sym (a ∙ ap (λ (x : Bytes). same (pick p.script x) m.script) e) ∙ q))
-
-pub fit-region : (L : Bytes) (m p : Parts) (v s r : Bytes) (f : Bool) {b : Bool} (g : Bool) → Says (row_value L p) v f → f ≡ true → s ≡ (cut_parts v).script → r ≡ (cut_parts v).region
-    → b ≡ same (pick p.script s) m.script → b ≡ true → g ≡ same (pick p.region r) m.region → g ≡ fits_parts L m p
-fit-region L m p v s r f g h t e d a q c =
-    sym (fits_by L m p v f h t ∙ ap (λ (x : Bool). x && same (pick p.region (cut_parts v).region) m.region) (sym (a ∙ ap (λ (x : Bytes). same (pick p.script x) m.script) e) ∙ q)
-    ∙ sym (c ∙ ap (λ (x : Bytes). same (pick p.region x) m.region) d))
-
-pub flip-true : {b : Bool} → not b ≡ true → b ≡ false
-flip-true {b = true} e = clash {b = false} e refl
-flip-true {b = false} e = refl
-
-pub flip-false : {b : Bool} → not b ≡ false → b ≡ true
-flip-false {b = true} e = refl
-flip-false {b = false} e = clash {b = true} refl e
-
--- the parts that code cuts out of a value
-pub language-cut : (v : Bytes) (a b : ℕ) → cut_at v a b ≡ cut_parts v → take a v ≡ (cut_parts v).language
-unfolding cut_at
-language-cut v a b e = ap (λ (p : Parts). p.language) e
-
-pub script-cut : (v : Bytes) (a b : ℕ) → cut_at v a b ≡ cut_parts v → take (b - a) (drop a v) ≡ (cut_parts v).script
-unfolding cut_at
-script-cut v a b e = ap (λ (p : Parts). p.script) e
-
-pub region-cut : (v : Bytes) (a b : ℕ) → cut_at v a b ≡ cut_parts v → take (length v - b) (drop b v) ≡ (cut_parts v).region
-unfolding cut_at
-region-cut v a b e = take_all (length v - b) (drop b v) (omega (arith, length-drop b v)) ∙ ap (λ (p : Parts). p.region) e
+  pub fit-region : (f : r ≡ pick p.region c.region) (g : Bool) → b ≡ true → g ≡ same r m.region → g ≡ fits_parts L m p
+  unfolding fits_parts fits_value
+  fit-region f g t q = rw (← h) (rw (← k, ← e, ← f, ← a, t) q)
 
 -- which trial fits first
-module _ (L l s r : Bytes) where
-  abbrev m : Parts
-  m = parts3 l s r
+module _ (L : Bytes) (m : Parts) {b : Bool} (e : b ≡ fits_parts L m (parts3 m.language [] [])) where
+  pub kept-alone : b ≡ true → parts3 m.language [] [] ≡ minimal_parts L m
+  unfolding minimal_parts
+  kept-alone t = rw (← e, t)
 
-  pub kept-neither : {b : Bool} → b ≡ fits_parts L m (parts3 l [] []) → b ≡ true → kept_parts Neither m ≡ minimal_parts L m
-  unfolding kept_parts minimal_parts
-  kept-neither e t = rw (← e, t)
+  module _ (t : b ≡ false) {c : Bool} (f : c ≡ fits_parts L m (parts3 m.language [] m.region)) where
+    pub kept-region : c ≡ true → parts3 m.language [] m.region ≡ minimal_parts L m
+    unfolding minimal_parts
+    kept-region u = rw (← e, t, ← f, u)
 
-  pub kept-region : {b c : Bool} → b ≡ fits_parts L m (parts3 l [] []) → b ≡ false → c ≡ fits_parts L m (parts3 l [] r) → c ≡ true → kept_parts Region m ≡ minimal_parts L m
-  unfolding kept_parts minimal_parts
-  kept-region e t f u = rw (← e, t, ← f, u)
+    module _ (u : c ≡ false) {d : Bool} (g : d ≡ fits_parts L m (parts3 m.language m.script [])) where
+      pub kept-script : d ≡ true → parts3 m.language m.script [] ≡ minimal_parts L m
+      unfolding minimal_parts
+      kept-script w = rw (← e, t, ← f, u, ← g, w)
 
-  module _ {b c d : Bool} (e : b ≡ fits_parts L m (parts3 l [] [])) (t : b ≡ false) (f : c ≡ fits_parts L m (parts3 l [] r)) (u : c ≡ false) (g : d ≡ fits_parts L m (parts3 l s [])) where
-    pub kept-script : d ≡ true → kept_parts Script m ≡ minimal_parts L m
-    unfolding kept_parts minimal_parts
-    kept-script w = rw (← e, t, ← f, u, ← g, w)
-
-    pub kept-both : d ≡ false → kept_parts Both m ≡ minimal_parts L m
-    unfolding kept_parts minimal_parts
-    kept-both w = rw (← e, t, ← f, u, ← g, w)
-
-pub other-is : (x y z : Bytes) {b : Bool} → b ≡ same y z → length x ≡ 0 → b ≡ same (pick x y) z
-other-is x y z e n = e ∙ ap (λ (k : Bytes). same k z) (pick-none x y n)
-
-pub first-is-same : (x y z : Bytes) {b : Bool} → b ≡ same x z → (length x ≡ 0 → ⊥) → b ≡ same (pick x y) z
-first-is-same x y z e n = e ∙ ap (λ (k : Bytes). same k z) (pick_some x y n)
+      pub kept-both : d ≡ false → m ≡ minimal_parts L m
+      unfolding minimal_parts
+      kept-both w = rw (← e, t, ← f, u, ← g, w)

@@ -1,22 +1,22 @@
 -- The maximised or minimised form, by the parts of the canonical form: its three, and the rest as it stands. Assumes
 -- nothing.
-use Rattle.std.specs.Prelude.{◌≡◌, Bool, cond, ◌++◌, ℕ, leb, length}
-use Rattle.std.proofs.Math.Option.{Option, none, some}
+use Rattle.std.specs.Prelude.{◌≡◌, Bool, cond, ◌++◌, ℕ, leb, length, Option, Some, None, Result, Ok, Err}
+use Rattle.std.proofs.Math.Option.{Option as Maybe, none, some}
 use Rattle.standard.specs.Delivery.{Bytes, Made, refusal, form, Given}
-use Rattle.likely.specs.Parts.{Parts, joined_parts, known_parts, fill_parts, minimal_parts, Ready}
-use Rattle.likely.specs.declared.forms.Outcome.{Outcome}
-use Rattle.likely.specs.declared.forms.Outcome.TheVariants.{Done, NoRow, Long, Short}
+use Rattle.likely.specs.Parts.{Parts, joined_parts, known_parts, fill_parts, minimal_parts, HasRoom}
+use Rattle.likely.specs.declared.forms.NoForm.{NoForm}
+use Rattle.likely.specs.declared.forms.NoForm.TheVariants.{NoRow, Overlong, Short}
 
 -- document 01's numbers for each outcome, with the output afterwards
-unfoldable pub given_by : Outcome → Bytes → Given
-given_by (Done n) out = record { number = 0; place = 0; table = 0; len = n; steps = 0; output = out }
-given_by NoRow out = record { number = 8; place = 0; table = 0; len = 0; steps = 0; output = out }
-given_by Long out = record { number = 9; place = 0; table = 0; len = 0; steps = 0; output = out }
-given_by Short out = record { number = 10; place = 0; table = 0; len = 0; steps = 0; output = out }
+unfoldable pub given_by : Result ℕ NoForm → Bytes → Given
+given_by (Ok n) out = record { number = 0; place = 0; table = 0; len = n; steps = 0; output = out }
+given_by (Err NoRow) out = record { number = 8; place = 0; table = 0; len = 0; steps = 0; output = out }
+given_by (Err Overlong) out = record { number = 9; place = 0; table = 0; len = 0; steps = 0; output = out }
+given_by (Err Short) out = record { number = 10; place = 0; table = 0; len = 0; steps = 0; output = out }
 
--- a length, or 256 where it is over 255
-unfoldable pub length_or256 : ℕ → ℕ
-length_or256 n = cond (leb n 255) n 256
+-- a length of at most 255
+unfoldable pub short_length : ℕ → Option ℕ
+short_length n = cond (leb n 255) (Some n) None
 
 -- number 9: a form over 255 bytes
 unfoldable pub short_form : Bytes → Made → Made
@@ -39,7 +39,7 @@ unfoldable pub made_of : Bool → Bytes → Bytes → Parts → Made
 made_of b L rest q = short_form (bytes_of q rest) (form (bytes_of (kept_if b L q) rest))
 
 -- number 8: no row
-unfoldable pub made_filled : Bool → Bytes → Bytes → Option Parts → Made
+unfoldable pub made_filled : Bool → Bytes → Bytes → Maybe Parts → Made
 made_filled b L rest none = refusal 8 0 0
 made_filled b L rest (some q) = made_of b L rest q
 
@@ -48,6 +48,6 @@ unfoldable pub made_parts : Bool → Bytes → Bytes → Parts → Made
 made_parts b L rest p = made_filled b L rest (fill_parts L (known_parts p))
 
 -- the parts looked up have room in a key
-pub record ReadyFor (L hints : Bytes) (p : Parts) : Type 0 where
-  pub first : Ready L hints (known_parts p)
-  pub again : (q : Parts) → fill_parts L (known_parts p) ≡ some q → Ready L hints q
+pub record RoomFor (L : Bytes) (p : Parts) : Type 0 where
+  pub first : HasRoom (known_parts p)
+  pub again : (q : Parts) → fill_parts L (known_parts p) ≡ some q → HasRoom q

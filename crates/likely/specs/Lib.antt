@@ -1,3 +1,3 @@
 pub mod Parts
-pub mod Kept
+pub mod Lent
 pub mod Forms

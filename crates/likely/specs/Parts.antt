@@ -6,7 +6,6 @@ use Rattle.standard.specs.Tag.{Tag, same, present, pick, text}
 use Rattle.standard.specs.Identifier.{Three, und}
 use Rattle.standard.specs.Delivery.{Bytes}
 use Rattle.standard.specs.Table.{lookup, rows}
-use Rattle.table.specs.Hints.{Indexed}
 
 -- an optional subtag with its separator
 unfoldable pub led_part : Tag → Bytes
@@ -48,10 +47,13 @@ unfoldable pub or_value : Option Bytes → Option Bytes → Option Bytes
 or_value none o = o
 or_value (some v) o = some v
 
--- A table whose rows ascend, with its hints, and parts that have room in a key: then a search finds what the standard's lookup finds.
-pub record Ready (L hints : Bytes) (p : Parts) : Type 0 where
-  pub indexed : Indexed L hints
-  pub short : length p.language + length p.script + length p.region ≤ 32
+-- how many bytes the parts have
+abbrev pub parts_length : Parts → ℕ
+parts_length p = length p.language + length p.script + length p.region
+
+-- parts that have room in a key: then a search finds what the standard's lookup finds
+abbrev pub HasRoom : Parts → Type 0
+HasRoom p = parts_length p ≤ 32
 
 -- where language-script-region has no row: the first of language-script, language-region, language that has one
 unfoldable pub shorter_value : Bytes → Parts → Option Bytes
@@ -79,10 +81,6 @@ cut_parts v =
     let b = dash v (a + 1) in
     record { language = take a v; script = take (b - a) (drop a v); region = drop b v }
 
--- the parts of a value, cut at two places
-unfoldable pub cut_at : Bytes → ℕ → ℕ → Parts
-cut_at v a b = record { language = take a v; script = take (b - a) (drop a v); region = drop b v }
-
 -- the language, or the other where it is `und`
 unfoldable pub language_of : Bytes → Bytes → Bytes
 language_of l v = cond (same l und) v l
@@ -103,10 +101,6 @@ over_value p (some v) = some (over_parts p (cut_parts v))
 -- the maximised parts of canonical ones
 unfoldable pub fill_parts : Bytes → Parts → Option Parts
 fill_parts L p = cond (complete_parts p) (some p) (over_value p (row_value L p))
-
--- the parts completed by a value, if there is one
-unfoldable pub filled_by : Parts → Bytes → Bool → Option Parts
-filled_by p v f = cond f (some (over_parts p (cut_parts v))) none
 
 -- 01, Minimising: a trial, and whether its maximised form has the script and region of m, with its language
 unfoldable pub fits_value : Parts → Parts → Option Bytes → Bool

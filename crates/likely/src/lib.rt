@@ -4,5 +4,5 @@
 
 pub mod forms;
 mod lsr;
-mod parts;
+pub mod parts;
 mod rows;

@@ -1,114 +1,64 @@
-// The maximised and the minimised three, by parts, over a likely table that passed the check.
-ghost use Rattle.std.specs.Prelude.{◌≡◌, ◌≤◌, length};
-ghost use Rattle.likely.specs.Parts.{Ready, parts3, cut_parts, cut_at, fill_parts, filled_by, fits_parts, minimal_parts};
-ghost use Rattle.likely.specs.Kept.{kept_parts};
+// The maximised and the minimised three, by parts.
+ghost use Rattle.std.specs.Prelude.{◌≡◌};
+ghost use Rattle.likely.specs.Parts.{HasRoom, fill_parts, fits_parts, minimal_parts};
+ghost use Rattle.likely.specs.Lent.{parts_is, filled_is};
 
-use crate::parts::{dash_from, first_is, is_complete};
+use crate::parts::{Parts, cut_value, first_of, is_complete, language_of};
 use crate::rows::find_row;
+use byte_string::same;
+use table::hints::IndexedTable;
 
-// Where the language and the script of a value end.
-#[derive(Clone, Copy)]
-pub struct Cuts {
-    pub language: usize,
-    pub script: usize,
-}
-
-pub(crate) fn cuts_of(v: &[u8]) -> Cuts
-    ensures { let v = v.entry.now in (result.language ≤ result.script) × (result.script ≤ length v) × (cut_at v result.language result.script ≡ cut_parts v) }
+// The parts, completed by a row where something is missing, if there is one.
+pub(crate) fn completed<'a>(likely: &IndexedTable<'a>, parts: &Parts<'a>) -> Option<Parts<'a>>
+    ensures { let p = parts_is parts.entry.now in HasRoom p → filled_is result ≡ fill_parts likely.entry.now.rows.now p }
 {
-    let a = dash_from(v, 0);
-    if v.len() <= a {
-        return Cuts {
-            language: a,
-            script: a,
-        };
+    if is_complete(parts) {
+        return Some(*parts);
     }
-    let b = dash_from(v, a + 1);
-    Cuts {
-        language: a,
-        script: b,
-    }
-}
-
-// The value of the row that completes the parts, empty where nothing is missing; and whether there is one.
-pub(crate) fn row_for<'a>(
-    likely: &'a [u8],
-    hints: &[u16],
-    language: &[u8],
-    script: &[u8],
-    region: &[u8],
-    found: &mut bool,
-) -> &'a [u8]
-    ensures { Ready likely.now hints.now (parts3 language.now script.now region.now)
-        → filled_by (parts3 language.now script.now region.now) result.now found.new
-        ≡ fill_parts likely.now (parts3 language.now script.now region.now) }
-{
-    if is_complete(language, script, region) {
-        *found = true;
-        return &likely[..0];
-    }
-    find_row(likely, hints, language, script, region, found)
+    let row = cut_value(find_row(likely, parts)?);
+    Some(Parts {
+        language: language_of(parts.language, row.language),
+        script: first_of(parts.script, row.script),
+        region: first_of(parts.region, row.region),
+    })
 }
 
 // Do the parts of a trial maximise to the language, script and region of the maximised form?
-pub(crate) fn fits(
-    likely: &[u8],
-    hints: &[u16],
-    language: &[u8],
-    script: &[u8],
-    region: &[u8],
-    whole_script: &[u8],
-    whole_region: &[u8],
-) -> bool
-    ensures { let likely = likely.entry.now in let hints = hints.entry.now in let language = language.entry.now in
-        let script = script.entry.now in let region = region.entry.now in let whole-script = whole_script.now in
-        let whole-region = whole_region.now in
-        (Ready likely hints (parts3 language script region) → result ≡ fits_parts likely (parts3 language whole-script whole-region) (parts3 language script region)) }
+fn fits(likely: &IndexedTable, trial: &Parts, whole: &Parts) -> bool
+    ensures { let p = parts_is trial.entry.now in HasRoom p → result ≡ fits_parts likely.entry.now.rows.now (parts_is whole.entry.now) p }
 {
-    let mut found = false;
-    let v = find_row(likely, hints, language, script, region, &mut found);
-    if !found {
+    let Some(value) = find_row(likely, trial) else {
         return false;
-    }
-    let c = cuts_of(v);
-    let a = c.language;
-    let b = c.script;
-    if !first_is(script, &v[a..b], whole_script) {
-        return false;
-    }
-    first_is(region, &v[b..], whole_region)
+    };
+    let row = cut_value(value);
+    same(first_of(trial.script, row.script), whole.script)
+        && same(first_of(trial.region, row.region), whole.region)
 }
 
-// What the minimised form keeps of the maximised one's script and region.
-#[derive(Clone, Copy)]
-pub enum Kept {
-    Neither,
-    Region,
-    Script,
-    Both,
-}
-
-// The first trial that maximises to the three.
-pub(crate) fn minimal(
-    likely: &[u8],
-    hints: &[u16],
-    language: &[u8],
-    script: &[u8],
-    region: &[u8],
-) -> Kept
-    ensures { Ready likely.now hints.now (parts3 language.now script.now region.now)
-        → kept_parts result (parts3 language.now script.now region.now)
-        ≡ minimal_parts likely.now (parts3 language.now script.now region.now) }
+// The first trial that maximises to the three, or the three.
+pub(crate) fn minimised<'a>(likely: &IndexedTable<'a>, whole: &Parts<'a>) -> Parts<'a>
+    ensures { let m = parts_is whole.entry.now in HasRoom m → parts_is result ≡ minimal_parts likely.entry.now.rows.now m }
 {
-    let none = &language[..0];
-    if fits(likely, hints, language, none, none, script, region) {
-        return Kept::Neither;
+    let alone = Parts {
+        script: b"",
+        region: b"",
+        ..*whole
+    };
+    let by_region = Parts {
+        script: b"",
+        ..*whole
+    };
+    let by_script = Parts {
+        region: b"",
+        ..*whole
+    };
+    if fits(likely, &alone, whole) {
+        alone
+    } else if fits(likely, &by_region, whole) {
+        by_region
+    } else if fits(likely, &by_script, whole) {
+        by_script
+    } else {
+        *whole
     }
-    if fits(likely, hints, language, none, region, script, region) {
-        return Kept::Region;
-    }
-    if fits(likely, hints, language, script, none, script, region) {
-        return Kept::Script;
-    }
-    Kept::Both
 }

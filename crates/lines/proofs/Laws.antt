@@ -7,12 +7,12 @@ use Prim.Native.Nat.{ℕ, suc, ◌+◌, ◌-◌, ◌≤◌, ◌<◌}
 use native.Mathlib.Numerals.{add-one}
 use native.Mathlib.Omega.{arith}
 use lib.Dec.{eqb}
-use lib.ListN.{length, take, drop, get_or, set, length-append, length-drop, drop_of_length-le}
-use lib.Seq.{sets, take_all, take_at, drop_at, drop-cons, length-sets, length-take-le, get_or-drop}
+use lib.ListN.{length, take, drop, get_or, length-append, length-drop, drop_of_length-le}
+use lib.Seq.{paste, sets, sets-eq, take_all, take_at, drop_at, drop-cons, length-sets, length-take-le}
 use borrow.Author.Tests.{eq-eqb, ne_eqb, lt-ltb, le-ltb, eqb-true, eqb-false}
 use Rattle.standard.specs.Tag.{onto}
 use Rattle.standard.proofs.General.{bool_cases, le-or-lt}
-use Rattle.byte_string.proofs.Stores.{sets-append, plain-next, sets_behind}
+use Rattle.byte_string.proofs.Stores.{sets-append}
 use Rattle.table.specs.Lines.{lines}
 use Rattle.lines.specs.Squeeze.{Bytes, next_run, kept, squeezed, run_after, taken_in, whole_length, handed_over, unfinished, handed, all_lines, together}
 
@@ -222,12 +222,11 @@ taking-end block piece₀ piece run end n i t h =
     let k = t.few in
     (omega arith, omega arith, rw d at t.bytes, omega (arith, t.room, t.within), omega arith)
 
--- The unfinished line moved to the front, one byte more.
-pub moved : (piece₀ piece : Bytes) (whole n i : ℕ) → piece ≡ sets piece₀ 0 (take i (drop whole piece₀)) → i < n → whole + n ≤ length piece₀
-    → set piece i (get_or piece (whole + i) 0) ≡ sets piece₀ 0 (take (i + 1) (drop whole piece₀))
-moved piece₀ piece whole n i e h k =
-    let d = length-drop whole piece₀ in
-    let t = length-take-le i (drop whole piece₀) (omega arith) in
-    let z : i ≡ 0 + i = omega arith in
-    ap (λ (k : ℕ). set piece k (get_or piece (whole + i) 0)) z ∙ plain-next piece₀ piece 0 (drop whole piece₀) i (get_or piece (whole + i) 0) e
-    (rw e (sets_behind piece₀ 0 (take i (drop whole piece₀)) (whole + i) (omega arith) ∙ sym (get_or-drop whole piece₀ i 0))) (omega arith)
+-- The unfinished line moved to the front.
+pub moved : (l : Bytes) (whole end : ℕ) → whole ≤ end → end ≤ length l → paste l 0 (drop whole l) (end - whole) ≡ sets l 0 (take (end - whole) (drop whole l))
+moved l whole end h k =
+    let x = take (end - whole) (drop whole l) in
+    let d = length-drop whole l in
+    let n : length x ≡ end - whole = length-take-le (end - whole) (drop whole l) (omega arith) in
+    let z : 0 + length x ≡ 0 + (end - whole) = omega arith in
+    sym (sets-eq x l 0 (omega arith) ∙ ap (λ (i : ℕ). x ++ drop i l) z)

@@ -3,6 +3,8 @@
 // unfinished line never takes more than 260 bytes.
 #![tactic(auto)]
 
+pub mod rows;
+
 ghost use Rattle.std.specs.Prelude.{◌≡◌, List, ◌+◌, ◌-◌, ◌≤◌, length, take, drop};
 ghost use Rattle.std.proofs.lemmas.List.Edits.{sets};
 ghost use Rattle.byte_string.specs.Strings.{WritesWithin};
@@ -18,29 +20,21 @@ pub struct Taken {
 }
 
 // How many bytes of the line are kept after one more byte.
+#[tactic(auto, unfolding(crate::specs::Squeeze::next_run))]
 fn next_run(run: usize, b: u8) -> usize
     requires { run ≤ 260 }
     ensures { (result ≡ next_run run b) × (result ≤ 260) }
 {
-    if b == b'\n' {
-        return 0;
-    }
-    if run < 260 {
-        return run + 1;
-    }
-    run
+    if b == b'\n' { 0 } else { 260.min(run + 1) }
 }
 
 // Writes the byte at the place at, if it is kept, and gives the next place.
+#[tactic(auto, unfolding(crate::specs::Squeeze::kept))]
 fn put_kept(run: usize, b: u8, out: &mut [u8], at: usize) -> usize
     requires { at + 1 ≤ length out.old }
     ensures { WritesWithin (at + 1) out.old at (kept run b) result out.new }
 {
-    if b == b'\n' {
-        out[at] = b;
-        return at + 1;
-    }
-    if run >= 260 {
+    if b != b'\n' && run >= 260 {
         return at;
     }
     out[at] = b;
@@ -56,11 +50,9 @@ fn take_in(block: &[u8], piece: &mut [u8], run: usize) -> Taken
 {
     let mut end = run;
     let mut n = run;
-    let mut i = 0;
-    while i < block.len() {
-        end = put_kept(n, block[i], piece, end);
-        n = next_run(n, block[i]);
-        i += 1;
+    for b in block {
+        end = put_kept(n, *b, piece, end);
+        n = next_run(n, *b);
     }
     Taken {
         whole: end - n,
@@ -73,13 +65,8 @@ fn keep_rest(piece: &mut [u8], whole: usize, end: usize) -> usize
     requires { (whole ≤ end) × (end ≤ length piece.old) }
     ensures { (result ≡ end - whole) × (piece.new ≡ sets piece.old 0 (take (end - whole) (drop whole piece.old))) }
 {
-    let n = end - whole;
-    let mut i = 0;
-    while i < n {
-        piece[i] = piece[whole + i];
-        i += 1;
-    }
-    n
+    piece.copy_within(whole..end, 0);
+    end - whole
 }
 
 // Takes the next block of the input in: the unfinished line moves to the front of the piece, and the block comes behind it.
@@ -103,8 +90,5 @@ pub fn next_piece(t: Taken, block: &[u8], piece: &mut [u8]) -> Taken
 pub fn next_line(n: usize, e: usize) -> usize
     ensures { Next n e result }
 {
-    if e < n {
-        return e + 1;
-    }
-    e
+    if e < n { e + 1 } else { e }
 }

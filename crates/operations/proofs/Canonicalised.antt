@@ -10,8 +10,7 @@ use Rattle.standard.specs.Identifier.{Identifier, Answer, done, refused, canonic
 use Rattle.standard.specs.Reading.{Read, good, bad, read, print}
 use Rattle.standard.specs.Table.{tables_of}
 use Rattle.canonical.specs.declared.form.Form.{Form}
-use Rattle.canonical.specs.declared.form.Canon.{Canon}
-use Rattle.canonical.specs.declared.form.Canon.TheVariants.{Formed, Refused}
+use Rattle.std.specs.Prelude.{Result, Ok, Err}
 use Rattle.canonical.specs.declared.form.NoForm.{NoForm}
 use Rattle.canonical.specs.Form.{form as formed-as, refusal as refused_as, form_of, formed, canonical_of, no_form_is, outcome_of, outcome, FormFits}
 
@@ -30,7 +29,7 @@ form-one e = (cc, cc)
 pub form-not : {f : Form} {x : Bytes} {n p : ℕ} {P : Type 0} → formed-as f x ≡ refused_as n p → P
 form-not e = let z : ◌≡◌ {A = ℕ} 0 1 = cc in absurd (omega arith)
 
-pub canonicalised : (A x : Bytes) (f : Form) (buf : Bytes) → outcome_of (Formed f) buf ≡ outcome A x → Canonicalised A x f buf
+pub canonicalised : (A x : Bytes) (f : Form) (buf : Bytes) → outcome_of (Ok f) buf ≡ outcome A x → Canonicalised A x f buf
 unfolding outcome_of outcome canonical_of formed
 canonicalised A x f buf e = go (read x) refl e
   where
@@ -53,17 +52,17 @@ in_order f i e =
     (omega (arith, a, b), omega (arith, b, c), omega (arith, c, d))
 
 -- the form that the code has in hand
-pub formed-by : (A x buf : Bytes) {c : Canon} {f : Form} → c ≡ Formed f → outcome_of c buf ≡ outcome A x → outcome_of (Formed f) buf ≡ outcome A x
-formed-by A x buf e h = subst (λ (q : Canon). outcome_of q buf ≡ outcome A x) e h
+pub formed-by : (A x buf : Bytes) {c : Result Form NoForm} {f : Form} → c ≡ Ok f → outcome_of c buf ≡ outcome A x → outcome_of (Ok f) buf ≡ outcome A x
+formed-by A x buf e h = subst (λ (q : Result Form NoForm). outcome_of q buf ≡ outcome A x) e h
 
-pub fits_by : {c : Canon} {f : Form} → c ≡ Formed f → FormFits c → f.len ≤ 255
+pub fits_by : {c : Result Form NoForm} {f : Form} → c ≡ Ok f → FormFits c → f.len ≤ 255
 unfolding FormFits
 fits_by e h = subst FormFits e h
 
 -- the refusal that the code has in hand
-pub refused-by : (A x buf : Bytes) {c : Canon} {r : NoForm} → c ≡ Refused r → outcome_of c buf ≡ outcome A x → outcome A x ≡ refused_as (no_form_is r).number (no_form_is r).place
+pub refused-by : (A x buf : Bytes) {c : Result Form NoForm} {r : NoForm} → c ≡ Err r → outcome_of c buf ≡ outcome A x → outcome A x ≡ refused_as (no_form_is r).number (no_form_is r).place
 unfolding outcome_of
-refused-by A x buf e h = sym h ∙ ap (λ (q : Canon). outcome_of q buf) e
+refused-by A x buf e h = sym h ∙ ap (λ (q : Result Form NoForm). outcome_of q buf) e
 
 pub refusal-one : {m n p q : ℕ} → refused_as m p ≡ refused_as n q → (m ≡ n) × (p ≡ q)
 refusal-one e = (cc, cc)

@@ -21,21 +21,19 @@ use Rattle.standard.specs.Make.{operate, identifier, print_line, chain_of, liste
 use Rattle.standard.proofs.Lines.{Plain}
 use Rattle.standard.proofs.Whole.{same-canonical, narrow-parents}
 use Rattle.canonical.specs.declared.form.Form.{Form}
-use Rattle.canonical.specs.declared.form.Canon.{Canon}
-use Rattle.canonical.specs.declared.form.Canon.TheVariants.{Refused as NotFormed}
+use Rattle.std.specs.Prelude.{Result, Err, Option as Maybe}
 use Rattle.canonical.specs.declared.form.NoForm.{NoForm}
 use Rattle.subtag.specs.Sections.{led}
 use Rattle.canonical.specs.Form.{refusal as refused_as, form_of, formed, canonical_of, no_form_is, outcome_of, outcome}
 use Rattle.canonical.proofs.Print.{print-led}
-use Rattle.operations.specs.Answer.{refused_of, given_refused}
+use Rattle.operations.specs.Answer.{answer_of, given_is, not_formed}
 use Rattle.operations.proofs.Canonicalised.{Canonicalised, refused-by, refusal-one, form-not}
 use Rattle.operations.proofs.Delivers.{refused-given}
 use Rattle.operations.proofs.Wholes.{printable-among}
 use Rattle.parents.specs.declared.lines.Listed.{Listed}
-use Rattle.operations.specs.declared.chain.Answered.TheVariants.{Refused, Lines}
 use Rattle.parents.specs.Texts.{chain_text}
 use Rattle.parents.specs.Listed.{Lists, listed_of, out_after}
-use Rattle.operations.specs.Chained.{given_listed, given_answered}
+use Rattle.operations.specs.Chained.{listed_is}
 use Rattle.parents.proofs.Laws.{first_plain, chain-text}
 
 -- a refusal of canonicalising stands
@@ -51,11 +49,10 @@ refused-chain A P x n p e = go (read x) e
     go (bad m q) k = let z = refusal-one k in rw (z.0, z.1)
     go (good i) k = by i (canonical (tables_of A [] []) i) refl k
 
-pub chain-stands : (A P x : Bytes) (c : Canon) (r : NoForm) (buf out : Bytes) → c ≡ NotFormed r → outcome_of c buf ≡ outcome A x
-    → given_answered (Refused r) out ≡ given (chain_from (tables_of A [] P) (read x)) out
-unfolding given_answered given_refused refused_of
+pub chain-stands : (A P x : Bytes) (c : Result Form NoForm) (r : NoForm) (buf out : Bytes) → c ≡ Err r → outcome_of c buf ≡ outcome A x
+    → given_is (Err (not_formed r)) out ≡ given (chain_from (tables_of A [] P) (read x)) out
 chain-stands A P x c r buf out k e =
-    refused-given (no_form_is r).number (no_form_is r).place 0 out
+    refused-given r out
     ∙ ap (λ (m : Made). given m out) (sym (refused-chain A P x (no_form_is r).number (no_form_is r).place (refused-by A x buf k e)))
 
 -- a line is the front of the form that it was made of
@@ -147,9 +144,9 @@ module _ (A P x : Bytes) (f : Form) (buf : Bytes) (w : Canonicalised A x f buf) 
     unfolding chain_from chain_made
     chain-makes = rw (w.reads, canonicalises)
 
-    pub chain-answer : (r : Listed) (out out' : Bytes) → Lists 0 out (chain_text P (f.count + 10) f.count (take f.variants buf)) r out'
-        → given_answered (Lines r) out' ≡ given (chain_from T (read x)) out
-    unfolding given_answered given_listed given listed listed_of out_after
+    pub chain-answer : (r : Maybe Listed) (out out' : Bytes) → Lists 0 out (chain_text P (f.count + 10) f.count (take f.variants buf)) r out'
+        → given_is (listed_is r) out' ≡ given (chain_from T (read x)) out
+    unfolding given_is answer_of listed_is given listed listed_of out_after
     chain-answer r out out' h =
         let ls = chain_of T c in
         let k : Lists 0 out ls r out' = subst (λ (y : List Bytes). Lists 0 out y r out') lines_are h in
@@ -158,7 +155,7 @@ module _ (A P x : Bytes) (f : Form) (buf : Bytes) (w : Canonicalised A x f buf) 
         zero-plus : (n : ℕ) → 0 + n ≡ n
         zero-plus n = omega arith
 
-        go : (ls : List Bytes) → Lists 0 out ls r out' → (b : Bool) → leb (length (listing ls)) (length out) ≡ b → given_answered (Lines r) out' ≡ given (listed ls) out
+        go : (ls : List Bytes) → Lists 0 out ls r out' → (b : Bool) → leb (length (listing ls)) (length out) ≡ b → given_is (listed_is r) out' ≡ given (listed ls) out
         go ls k false e = let z = zero-plus (length (listing ls)) in rw (k.listed, k.written, z, e)
         go ls k true e =
             let z = zero-plus (length (listing ls)) in

@@ -11,28 +11,12 @@ use Rattle.standard.specs.Tag.{All}
 use Rattle.standard.proofs.Numbers.{Proper, whole-proper}
 use Rattle.standard.proofs.Whole.{narrow-likely}
 use Rattle.table_check.proofs.Ordered.{SortedTable, check-sorted}
-use Rattle.operations.specs.Answer.{answer_of, refused_answer, given_refused}
-use Rattle.operations.specs.declared.delivery.Answer.{Answer}
+use Rattle.std.specs.Prelude.{Result}
+use Rattle.operations.specs.Answer.{given_is}
+use Rattle.operations.specs.declared.delivery.Done.{Done}
+use Rattle.operations.specs.declared.delivery.Refusal.{Refusal}
 use Rattle.operations.proofs.Wholes.{tested-among, passed-stands}
-use Rattle.likely.specs.declared.forms.Outcome.{Outcome}
-use Rattle.likely.specs.declared.forms.Outcome.TheVariants.{Done, NoRow, Long, Short}
-use Rattle.operations.specs.declared.complete.Answered.{Answered}
-use Rattle.operations.specs.declared.complete.Answered.TheVariants.{Refused, Made}
-use Rattle.likely.specs.Forms.{given_by}
-use Rattle.operations.specs.Completed.{given_answered, outcome_answer, answer_by}
 use Rattle.operations.specs.Both.{TestedBoth, operation_of, whole_made}
-
-outcome-given : (o : Outcome) (out : Bytes) → answer_of (outcome_answer o) out ≡ given_by o out
-unfolding answer_of outcome_answer refused_answer given_by
-outcome-given (Done n) out = refl
-outcome-given NoRow out = refl
-outcome-given Long out = refl
-outcome-given Short out = refl
-
-pub answer-given : (a : Answered) (out : Bytes) → answer_of (answer_by a) out ≡ given_answered a out
-unfolding answer_by given_answered given_refused
-answer-given (Refused r) out = refl
-answer-given (Made o) out = outcome-given o out
 
 -- tables that pass are as the inner operation asks
 pub tested-both : (A L : Bytes) → check to_maximise A L [] ≡ none → TestedBoth A L
@@ -63,8 +47,7 @@ unfolding whole
 minimised-proper A L x e = subst Proper (sym (whole-minimised A L x) ∙ whole-good true A L x e) (whole-proper A L [] minimise x)
 
 -- what was made over tables that pass is the whole answer
-pub whole-answer : (b : Bool) (A L x : Bytes) (a : Answered) (r : Answer) (out out' : Bytes) → check to_maximise A L [] ≡ none → r ≡ answer_by a
-    → given_answered a out' ≡ given (make (tables_of A L []) (operation_of b) x) out → answer_of r out' ≡ given (whole_made b A L x) out
+pub whole-answer : (b : Bool) (A L x : Bytes) (r : Result Done Refusal) (out out' : Bytes) → check to_maximise A L [] ≡ none
+    → given_is r out' ≡ given (make (tables_of A L []) (operation_of b) x) out → given_is r out' ≡ given (whole_made b A L x) out
 unfolding whole_made
-whole-answer b A L x a r out out' e f g =
-    passed-stands (check to_maximise A L []) (make (tables_of A L []) (operation_of b) x) out out' r (answer_by a) e f (answer-given a out' ∙ g)
+whole-answer b A L x r out out' e g = passed-stands (check to_maximise A L []) (make (tables_of A L []) (operation_of b) x) out out' r e g

@@ -8,16 +8,15 @@ use native.Mathlib.Omega.{arith}
 use lib.ListN.{length, take, drop, take-append-drop}
 use lib.Seq.{take-append_seam, drop-append_seam, drop-append-add}
 use Rattle.standard.specs.Delivery.{Bytes, Made as MadeBytes, refusal, Given, given}
-use Rattle.canonical.specs.declared.form.Canon.{Canon}
-use Rattle.canonical.specs.declared.form.Canon.TheVariants.{Refused as NotFormed}
+use Rattle.std.specs.Prelude.{Result, Ok, Err}
 use Rattle.canonical.specs.declared.form.NoForm.{NoForm}
-use Rattle.operations.specs.declared.complete.Answered.TheVariants.{Refused, Made}
-use Rattle.likely.specs.declared.forms.Outcome.{Outcome}
-use Rattle.operations.specs.Answer.{refused_of, given_refused}
+use Rattle.likely.specs.declared.forms.NoForm.{NoForm as NotMade}
+use Rattle.likely.specs.declared.forms.NoForm.TheVariants.{NoRow, Overlong, Short}
+use Rattle.operations.specs.Answer.{answer_of, given_is, not_formed}
 use Rattle.operations.proofs.Canonicalised.{Canonicalised, refused-by, form-not, refusal-one}
 use Rattle.operations.proofs.Delivers.{refused-given}
 use Rattle.operations.proofs.Wholes.{printable-among}
-use Rattle.operations.specs.Completed.{given_answered}
+use Rattle.operations.specs.Completed.{made_is}
 use Rattle.standard.specs.Calls.{canonicalise}
 use Rattle.standard.specs.Identifier.{Three, Identifier, Tables, Answer, done, refused, canonical, canonical_form, maximised, minimised, then, maximal_three, without_unknown, trial, with_three, part, printed_length}
 use Rattle.standard.specs.Reading.{Read, good, bad, read}
@@ -29,11 +28,10 @@ use Rattle.standard.proofs.Round.{Shaped, Printable, length-print}
 use Rattle.standard.proofs.Closed.{fill-shaped, strip-shaped, core-printable}
 use Rattle.standard.proofs.Table.{Passed, passed, good-tables, shaped-tables}
 use Rattle.standard.proofs.Whole.{same-canonical, narrow-likely}
-use Rattle.table.specs.Hints.{Indexed}
 use Rattle.canonical.specs.declared.form.Form.{Form}
 use Rattle.canonical.specs.Form.{refusal as refused_as, form_of, formed, canonical_of, no_form_is, outcome_of, outcome}
-use Rattle.likely.specs.Parts.{led_part, Parts, parts3, parts_of, joined_parts, fill_parts, Ready}
-use Rattle.likely.specs.Forms.{given_by, bytes_of, made_parts, ReadyFor}
+use Rattle.likely.specs.Parts.{led_part, Parts, parts_of, joined_parts, fill_parts, HasRoom}
+use Rattle.likely.specs.Forms.{given_by, bytes_of, made_parts, RoomFor}
 use Rattle.operations.specs.Both.{operation_of}
 use Rattle.operations.specs.Slices.{Slices}
 use Rattle.likely.proofs.Laws.{known-parts, map_parts, fill-parts}
@@ -68,7 +66,7 @@ unfolding led_part part
 led-size [] = refl
 led-size (b ∷ bs) = refl
 
-module _ (A L : Bytes) (pass : check to_maximise A L [] ≡ none) (hints : Bytes) (indexed : Indexed L hints) (x : Bytes) (f : Form) (buf : Bytes) (w : Canonicalised A x f buf) where
+module _ (A L : Bytes) (pass : check to_maximise A L [] ≡ none) (x : Bytes) (f : Form) (buf : Bytes) (w : Canonicalised A x f buf) where
   abbrev T : Tables
   T = tables_of A L []
 
@@ -105,18 +103,18 @@ module _ (A L : Bytes) (pass : check to_maximise A L [] ≡ none) (hints : Bytes
   made_by false = rw (w.reads, canonicalises) (maximised-made A L [] whole c printables)
   made_by true = rw (w.reads, canonicalises) (minimised-made A L [] whole c printables full)
 
-  pub ready : ReadyFor L hints (parts_of c.core)
+  pub ready : RoomFor L (parts_of c.core)
   unfolding map_parts
   ready = record {
-    first = subst (Ready L hints) (known-parts c.core) (record { indexed = indexed; short = omega (arith, shaped-short (without_unknown c.core) (strip-shaped T (shaped-tables A L [] ok) c.core printable.core)) });
+    first = subst HasRoom (known-parts c.core) (omega (arith, shaped-short (without_unknown c.core) (strip-shaped T (shaped-tables A L [] ok) c.core printable.core)));
     again = λ q e. again q (ap (fill_parts L) (known-parts c.core) ∙ e);
   }
     where
-      look : (o : Option Three) → maximal_three T (without_unknown c.core) ≡ o → (q : Parts) → map_parts o ≡ some q → Ready L hints q
+      look : (o : Option Three) → maximal_three T (without_unknown c.core) ≡ o → (q : Parts) → map_parts o ≡ some q → HasRoom q
       look none e q k = absurd (none-ne-some q k)
-      look (some t) e q k = let z : parts_of t ≡ q = some_one k in subst (Ready L hints) z (record { indexed = indexed; short = omega (arith, shaped-short t (shaped t e)) })
+      look (some t) e q k = let z : parts_of t ≡ q = some_one k in subst HasRoom z (omega (arith, shaped-short t (shaped t e)))
 
-      again : (q : Parts) → fill_parts L (parts_of (without_unknown c.core)) ≡ some q → Ready L hints q
+      again : (q : Parts) → fill_parts L (parts_of (without_unknown c.core)) ≡ some q → HasRoom q
       again q e = look (maximal_three T (without_unknown c.core)) refl q (sym (fill-parts A L [] whole (without_unknown c.core)) ∙ e)
 
   -- how long the printed parts are
@@ -147,11 +145,10 @@ module _ (A L : Bytes) (pass : check to_maximise A L [] ≡ none) (hints : Bytes
   unfolding parts_of bytes_of joined_parts
   cuts = slices buf _ _ _ _ f.language f.script f.region f.len sizes.language sizes.script sizes.region sizes.len (w.bytes ∙ print-rest c)
 
-pub by-slices : (b : Bool) (L hints : Bytes) (p : Parts) (rest l s r d : Bytes) (G : Given) (out : Bytes) → l ≡ p.language → s ≡ p.script → r ≡ p.region → d ≡ rest
-    → (ReadyFor L hints (parts3 l s r) → G ≡ given (made_parts b L d (parts3 l s r)) out) → ReadyFor L hints p → G ≡ given (made_parts b L rest p) out
-by-slices b L hints p rest l s r d G out el es er ed h k =
-    let e : parts3 l s r ≡ p = λ i. parts3 (el i) (es i) (er i) in
-    h (subst (ReadyFor L hints) (sym e) k) ∙ ap₂ (λ (x : Bytes) (q : Parts). given (made_parts b L x q) out) ed e
+pub by-slices : (b : Bool) (L : Bytes) (p q : Parts) (rest d : Bytes) (G : Given) (out : Bytes) → q ≡ p → d ≡ rest
+    → (RoomFor L q → G ≡ given (made_parts b L d q) out) → RoomFor L p → G ≡ given (made_parts b L rest p) out
+by-slices b L p q rest d G out e ed h k =
+    h (subst (RoomFor L) (sym e) k) ∙ ap₂ (λ (x : Bytes) (q : Parts). given (made_parts b L x q) out) ed e
 
 -- A refusal of canonicalising stands.
 pub refused-made : (A L x : Bytes) (b : Bool) (n p : ℕ) → outcome A x ≡ refused_as n p → make (tables_of A L []) (operation_of b) x ≡ refusal n p 0
@@ -173,16 +170,23 @@ refused-made A L x b n p e = go (read x) e
     go (bad m q) k = let z = refusal-one k in rw (z.0, z.1)
     go (good i) k = by i (canonical (tables_of A [] []) i) refl k
 
-pub refusal-stands : (A L x : Bytes) (b : Bool) (c : Canon) (r : NoForm) (buf out : Bytes) → c ≡ NotFormed r → outcome_of c buf ≡ outcome A x
-    → given_answered (Refused r) out ≡ given (make (tables_of A L []) (operation_of b) x) out
-unfolding given_answered given_refused refused_of
+pub refusal-stands : (A L x : Bytes) (b : Bool) (c : Result Form NoForm) (r : NoForm) (buf out : Bytes) → c ≡ Err r → outcome_of c buf ≡ outcome A x
+    → given_is (Err (not_formed r)) out ≡ given (make (tables_of A L []) (operation_of b) x) out
 refusal-stands A L x b c r buf out k e =
-    refused-given (no_form_is r).number (no_form_is r).place 0 out
+    refused-given r out
     ∙ ap (λ (m : MadeBytes). given m out) (sym (refused-made A L x b (no_form_is r).number (no_form_is r).place (refused-by A x buf k e)))
 
-pub made-answer : (A L : Bytes) (pass : check to_maximise A L [] ≡ none) (hints : Bytes) (indexed : Indexed L hints) (x : Bytes) (f : Form) (buf : Bytes) (w : Canonicalised A x f buf) (b : Bool) (o : Outcome) (out out' : Bytes)
-    → ((p : Parts) → (rest : Bytes) → Slices buf p.language p.script p.region rest f.language f.script f.region f.len → ReadyFor L hints p → given_by o out' ≡ given (made_parts b L rest p) out)
-    → given_answered (Made o) out' ≡ given (make (tables_of A L []) (operation_of b) x) out
-unfolding given_answered
-made-answer A L pass hints indexed x f buf w b o out out' h =
-    h (parts_of w.form.core) (rest_of w.form) (cuts A L pass hints indexed x f buf w) (ready A L pass hints indexed x f buf w) ∙ ap (λ (m : MadeBytes). given m out) (sym (made_by A L pass hints indexed x f buf w b))
+-- what was made, with the numbers of the operation
+made-given : (o : Result ℕ NotMade) (out : Bytes) → given_is (made_is o) out ≡ given_by o out
+unfolding given_is answer_of made_is given_by
+made-given (Ok n) out = refl
+made-given (Err NoRow) out = refl
+made-given (Err Overlong) out = refl
+made-given (Err Short) out = refl
+
+pub made-answer : (A L : Bytes) (pass : check to_maximise A L [] ≡ none) (x : Bytes) (f : Form) (buf : Bytes) (w : Canonicalised A x f buf) (b : Bool) (o : Result ℕ NotMade) (out out' : Bytes)
+    → ((p : Parts) → (rest : Bytes) → Slices buf p.language p.script p.region rest f.language f.script f.region f.len → RoomFor L p → given_by o out' ≡ given (made_parts b L rest p) out)
+    → given_is (made_is o) out' ≡ given (make (tables_of A L []) (operation_of b) x) out
+made-answer A L pass x f buf w b o out out' h =
+    made-given o out' ∙ h (parts_of w.form.core) (rest_of w.form) (cuts A L pass x f buf w) (ready A L pass x f buf w)
+    ∙ ap (λ (m : MadeBytes). given m out) (sym (made_by A L pass x f buf w b))

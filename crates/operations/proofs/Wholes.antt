@@ -1,7 +1,7 @@
 -- Operations over tables that passed the check: what they make is printable, the aliases among the tables passed alone, and
 -- what is answered is the whole operation's answer. Assumes nothing.
 use mathlib.Core.Path.{◌≡◌, sym, ap, ◌∙◌}
-use mathlib.Core.List.{List}
+use mathlib.Core.List.{List, []}
 use mathlib.Core.Option.{Option, none}
 use Prim.Native.Nat.{ℕ}
 use Rattle.standard.specs.Delivery.{Made, given}
@@ -16,8 +16,11 @@ use Rattle.standard.proofs.Demand.{printable-of}
 use Rattle.standard.proofs.Table.{passed, good-tables, shaped-tables}
 use Rattle.standard.proofs.Checks.{check-less}
 use Rattle.standard.proofs.Whole.{aliases-only}
-use Rattle.operations.specs.declared.delivery.Answer.{Answer}
-use Rattle.operations.specs.Answer.{answer_of}
+use Rattle.std.specs.Prelude.{Result}
+use Rattle.operations.specs.declared.delivery.Done.{Done}
+use Rattle.operations.specs.declared.delivery.Refusal.{Refusal}
+use Rattle.operations.specs.Answer.{given_is}
+use Rattle.table.specs.Search.{Sorted}
 use Rattle.canonical.specs.Tested.{Tested}
 use Rattle.canonical.proofs.TestedAliases.{tested}
 
@@ -31,8 +34,11 @@ printable-among A L P x o i c e r d =
 pub tested-among : (A L P : List ℕ) → check to_check A L P ≡ none → Tested A
 tested-among A L P e = tested A (aliases-only A L P ∙ check-less to_canonicalise A L P e)
 
-pub passed-stands : (o : Option TableFault) (m : Made) (out out' : List ℕ) (r a : Answer) → o ≡ none → r ≡ a → answer_of a out' ≡ given m out
-    → answer_of r out' ≡ given (after_check o m) out
+-- aliases that pass alone ascend
+pub sorted-aliases : (A : List ℕ) → check to_canonicalise A [] [] ≡ none → Sorted A
+sorted-aliases A e = (tested A e).sorted
+
+pub passed-stands : (o : Option TableFault) (m : Made) (out out' : List ℕ) (r : Result Done Refusal) → o ≡ none → given_is r out' ≡ given m out
+    → given_is r out' ≡ given (after_check o m) out
 unfolding after_check
-passed-stands o m out out' r a e f g =
-    ap (λ (q : Answer). answer_of q out') f ∙ g ∙ ap (λ (w : Option TableFault). given (after_check w m) out) (sym e)
+passed-stands o m out out' r e g = g ∙ ap (λ (w : Option TableFault). given (after_check w m) out) (sym e)

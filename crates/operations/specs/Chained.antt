@@ -1,15 +1,14 @@
--- What the chain over tested tables gives: document 01's numbers for each case of the answer. Assumes nothing.
-use Rattle.std.specs.Prelude.{◌≡◌, cond, [], ◌≤◌, length}
+-- The tables that a chain goes by, and how a listing of parents is answered. Assumes nothing.
+use Rattle.std.specs.Prelude.{◌≡◌, [], ◌≤◌, length, Option, Some, None, Result, Ok, Err}
 use Rattle.std.proofs.Math.Option.{none}
-use Rattle.standard.specs.Delivery.{Bytes, Given}
+use Rattle.standard.specs.Delivery.{Bytes}
 use Rattle.standard.specs.Table.{check, to_chain}
 use Rattle.table.specs.Search.{Sorted}
 use Rattle.canonical.specs.Tested.{Tested}
-use Rattle.operations.specs.Answer.{given_refused, refused_answer, refused_of}
 use Rattle.parents.specs.declared.lines.Listed.{Listed}
-use Rattle.operations.specs.declared.chain.Answered.{Answered}
-use Rattle.operations.specs.declared.chain.Answered.TheVariants.{Refused, Lines}
-use Rattle.operations.specs.declared.delivery.Answer.{Answer}
+use Rattle.operations.specs.declared.delivery.Done.{Done}
+use Rattle.operations.specs.declared.delivery.Refusal.{Refusal}
+use Rattle.operations.specs.declared.delivery.Refusal.TheVariants.{Short}
 
 -- tables of aliases and of parents that passed the check, and so ascend
 pub record TestedChain (A P : Bytes) : Type 0 where
@@ -18,22 +17,7 @@ pub record TestedChain (A P : Bytes) : Type 0 where
   pub parents : Sorted P
   pub small : length P ≤ 32768
 
--- a listing that fits, or number 10
-unfoldable pub given_listed : Listed → Bytes → Given
-given_listed r out =
-    cond r.fits (record { number = 0; place = 0; table = 0; len = r.end; steps = r.steps; output = out })
-    (record { number = 10; place = 0; table = 0; len = 0; steps = 0; output = out })
-
--- what is given back: canonicalising's refusal stands, or the listing
-unfoldable pub given_answered : Answered → Bytes → Given
-given_answered (Refused r) out = given_refused r out
-given_answered (Lines r) out = given_listed r out
-
--- 01, Numbers: 0 with the listing's length and steps where it fits, else 10
-unfoldable pub listed_answer : Listed → Answer
-listed_answer r = cond r.fits (record { number = 0; place = 0; table = 0; len = r.end; steps = r.steps }) (refused_answer 10 0 0)
-
--- where canonicalising refuses, its answer stands
-unfoldable pub answer_by : Answered → Answer
-answer_by (Refused r) = refused_of r
-answer_by (Lines r) = listed_answer r
+-- a listing that fits, or that the output is too short
+unfoldable pub listed_is : Option Listed → Result Done Refusal
+listed_is (Some l) = Ok (record { len = l.end; steps = l.steps })
+listed_is None = Err Short

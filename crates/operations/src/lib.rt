@@ -5,3 +5,4 @@ pub mod canonicalise;
 pub mod chain;
 pub mod complete;
 pub mod delivery;
+pub mod tables;

@@ -1,7 +1,8 @@
 -- The walk of parents over texts, as parts of the table.
 -- Assumes nothing.
-use mathlib.Core.Path.{◌≡◌, refl, sym, ap, ◌∙◌}
-use mathlib.Core.Bool.{true, false, not, ◌&&◌}
+use mathlib.Core.Path.{◌≡◌, refl, sym, ap, subst, ◌∙◌}
+use mathlib.Core.Bool.{Bool, true, false, cond, not, ◌&&◌}
+use mathlib.Core.Option.{Option, none, some}
 use mathlib.Core.Logic.{inl}
 use mathlib.Core.List.{List, [], ◌∷◌, ◌++◌, append-nil, append_assoc}
 use Prim.Native.Nat.{ℕ, zero, suc, ◌+◌, ◌-◌, ◌≤◌, ◌<◌}
@@ -15,15 +16,13 @@ use Rattle.standard.specs.Reading.{optional, joined}
 use Rattle.standard.specs.Table.{pieces, lookup, rows, located, find_in_case, three_of, parse, print_three, is_three, parsed, tables_of, parent_shape, Pass}
 use Rattle.standard.proofs.Tags.{same-eq, same_refl}
 use Rattle.standard.proofs.General.{bool_cases, and-true, both_ways, no, none-there as not-present}
-use Rattle.table.specs.declared.Found.{Found}
-use Rattle.table.specs.Lines.{found_is, value_of, value_if}
-use Rattle.table.proofs.Lines.{lookup-located, cut-value, cut-found}
+use Rattle.table.specs.Lines.{value_of, value_if}
+use Rattle.table.proofs.Lines.{lookup-located}
 use Rattle.row_shapes.specs.declared.lsr.Three.{Three}
 use Rattle.row_shapes.specs.Shapes.{between, ThreeAt}
 use Rattle.row_shapes.proofs.Texts.{one_piece}
 use Rattle.row_shapes.proofs.Pieces.{Free, pieces_more, pieces-free}
-use Rattle.parents.specs.declared.walk.Parent.{Parent}
-use Rattle.parents.specs.Walk.{cut, ValueOk, ShorterAt, ParentAt, reaches_from}
+use Rattle.parents.specs.Walk.{cut, ValueOk, ShorterIs, ParentIs, reaches_from}
 use Rattle.row_shapes.proofs.Threes.{ThreeOk, three-ok, print-is-three, parse-print}
 use Rattle.standard.proofs.Table.{three-printed as three-text, row-test as row-shape}
 
@@ -89,7 +88,7 @@ module _ (x : List ℕ) (r : Three) (t : ThreeAt x r) (e : is_three x ≡ true) 
   R = drop (r.script + 1) x
 
   parts : parse x ≡ three L S R
-  parts = t.parts (t.is ∙ e)
+  parts = t.parts
 
   ok : ThreeOk (three L S R)
   ok = rw parts at (three-ok x e)
@@ -192,67 +191,66 @@ free-take zero s h = tt
 free-take (suc n) [] h = tt
 free-take (suc n) (b ∷ s) h = (h.0, free-take n s h.1)
 
-module _ (p : List ℕ) (at end : ℕ) (low : at ≤ end) (high : end ≤ length p) (v : ValueOk (cut p at end)) where
-  abbrev x : List ℕ
-  x = cut p at end
-
+module _ (x : List ℕ) (v : ValueOk x) where
   module _ (r : Three) (t : ThreeAt x r) where
-    size : length x ≡ end - at
-    size = cut-length p at end low high
+    shorter-to : (e : ℕ) → Shorter x r t v.three (take e x) → ShorterIs x (some (take e x))
+    unfolding ShorterIs
+    shorter-to e s = (record { three = s.three; free = free-take e x v.free }, s.is)
 
-    shorter-to : (e : ℕ) → e ≤ end - at → Shorter x r t v.three (take e x) → ShorterAt p at end (record { root = false; at = at; end = at + e })
-    shorter-to e h s =
-        let c = cut-cut p at end e h in
-        record { low = omega arith; high = omega arith; root = λ f. no f; value = λ _. record { three = ap is_three c ∙ s.three; free = rw c (free-take e x v.free) }; next = λ _. s.is ∙ ap parse (sym c) }
+    pub shorter-region : r.script + 1 < length x → ShorterIs x (some (take r.script x))
+    shorter-region h = shorter-to r.script (without-region x r t v.three (simp length-drop (omega arith)))
 
-    pub shorter-region : r.script + 1 < end - at → ShorterAt p at end (record { root = false; at = at; end = at + r.script })
-    shorter-region h = shorter-to r.script (omega arith) (without-region x r t v.three (simp length-drop (omega (arith, size))))
-
-    pub shorter-script : end - at ≤ r.script + 1 → r.language + 1 < r.script → ShorterAt p at end (record { root = false; at = at; end = at + r.language })
+    pub shorter-script : length x ≤ r.script + 1 → r.language + 1 < r.script → ShorterIs x (some (take r.language x))
     shorter-script h k =
         let m = t.high in
-        shorter-to r.language (omega (arith, size)) (without-script x r t v.three (simp length-drop (omega (arith, size))) (simp (length-take, length-drop) (omega (arith, size))))
+        shorter-to r.language (without-script x r t v.three (simp length-drop (omega arith)) (simp (length-take, length-drop) (omega arith)))
 
-    pub shorter-root : end - at ≤ r.script + 1 → r.script ≤ r.language + 1 → ShorterAt p at end (record { root = true; at = at; end = end })
-    shorter-root h k =
-        record { low = low; high = high; root = λ _. language-alone x r t v.three (simp length-drop (omega (arith, size))) (simp (length-take, length-drop) (omega arith)); value = λ f. no (sym f); next = λ f. no (sym f) }
+    pub shorter-root : length x ≤ r.script + 1 → r.script ≤ r.language + 1 → ShorterIs x none
+    unfolding ShorterIs
+    shorter-root h k = language-alone x r t v.three (simp length-drop (omega arith)) (simp (length-take, length-drop) (omega arith))
 
-  -- by the table
-  module _ (pass : Pass parent_shape (rows p)) where
-    pub parent_row : (f : Found) → found_is f ≡ located p x → f.found ≡ true → f.start + f.len ≤ length p → ParentAt p at end (record { root = false; at = f.start; end = f.start + f.len })
-    parent_row f q e h =
-        let g : (located p x).found ≡ true = sym (cut-found f (located p x) q) ∙ e in
-        let c : cut p f.start (f.start + f.len) ≡ value_of p (located p x) = cut-value p f (located p x) q in
-        let w = found-value p x pass v.free g in
-        record { low = omega arith; high = h; root = λ b. no b; value = λ _. record { three = ap is_three c ∙ w.three; free = rw c w.free }; next = λ _. parent-found p x v.three g ∙ ap (λ (y : List ℕ). line (parse y) []) (sym c) }
-
-  pub parent_short : (f : Found) (s : Parent) → found_is f ≡ located p x → f.found ≡ false → ShorterAt p at end s → ParentAt p at end s
-  parent_short f s q e d =
-      let g : (located p x).found ≡ false = sym (cut-found f (located p x) q) ∙ e in
-      let n = parent-none p x v.three g in
-      record { low = d.low; high = d.high; root = λ b. n ∙ ap (λ (u : Subtags). line u []) (d.root b); value = d.value; next = λ b. n ∙ ap (λ (u : Subtags). line u []) (d.next b) }
-
-  -- the loop
-  pub reach-root : (n : ℕ) → same x und ≡ true → true ≡ reaches_from p n x
-  unfolding reaches_from
-  reach-root n s = walk-root p x n v.three s
-
-  pub reach-stop : (n : ℕ) → n ≡ 0 → same x und ≡ false → false ≡ reaches_from p n x
-  unfolding reaches_from
-  reach-stop n z s = rw z (walk-stop p x v.three s)
-
-  module _ (n : ℕ) (h : n ≡ 0 → ⊥) (s : same x und ≡ false) (d : Parent) (k : ParentAt p at end d) where
-    less : n ≡ suc (n - 1)
-    less = go n h
+  module _ (p : List ℕ) where
+    -- by the table
+    pub parent_row : Pass parent_shape (rows p) → (y : List ℕ) → some y ≡ value_if p (located p x) → ParentIs p x (some y)
+    unfolding ParentIs
+    parent_row pass y e = go (located p x).found refl e
       where
-        go : (m : ℕ) → (m ≡ 0 → ⊥) → m ≡ suc (m - 1)
-        go zero g = absurd (g refl)
-        go (suc m) g = omega arith
+        go : (b : Bool) → (located p x).found ≡ b → some y ≡ cond b (some (value_of p (located p x))) none → ValueOk y × (parent (tables_of [] [] p) (line (parse x) []) ≡ line (parse y) [])
+        go true f k =
+            let z : value_of p (located p x) ≡ y = cc in
+            (subst ValueOk z (found-value p x pass v.free f), parent-found p x v.three f ∙ ap (λ (w : List ℕ). line (parse w) []) z)
+        go false f k = absurd (cc)
 
-    pub reach-und : d.root ≡ true → true ≡ reaches_from p n x
-    unfolding reaches_from
-    reach-und f = sym (ap (λ (m : ℕ). reaches (tables_of [] [] p) m (line (parse x) [])) less ∙ walk-next p x (n - 1) (line (three und [] []) []) v.three s (k.root f) ∙ und-reached (tables_of [] [] p) (n - 1))
+    pub parent_short : (s : Option (List ℕ)) → none ≡ value_if p (located p x) → ShorterIs x s → ParentIs p x s
+    unfolding ParentIs ShorterIs
+    parent_short s e d = go (located p x).found refl e s d
+      where
+        go : (b : Bool) → (located p x).found ≡ b → none ≡ cond b (some (value_of p (located p x))) none → (s : Option (List ℕ)) → ShorterIs x s → ParentIs p x s
+        go true f k s d = absurd (cc)
+        go false f k none d = parent-none p x v.three f ∙ ap (λ (u : Subtags). line u []) d
+        go false f k (some y) d = (d.0, parent-none p x v.three f ∙ ap (λ (u : Subtags). line u []) d.1)
 
-    pub reach-next : d.root ≡ false → reaches_from p n x ≡ reaches_from p (n - 1) (cut p d.at d.end)
+    -- the loop
+    pub reach-root : (n : ℕ) → same x und ≡ true → true ≡ reaches_from p n x
     unfolding reaches_from
-    reach-next f = ap (λ (m : ℕ). reaches (tables_of [] [] p) m (line (parse x) [])) less ∙ walk-next p x (n - 1) (line (parse (cut p d.at d.end)) []) v.three s (k.next f)
+    reach-root n s = walk-root p x n v.three s
+
+    pub reach-end : (n : ℕ) → n ≡ 0 → same x und ≡ reaches_from p n x
+    unfolding reaches_from reaches
+    reach-end n z = rw z (sym (root_is x v.three))
+
+    module _ (n : ℕ) (h : 0 < n) (s : same x und ≡ false) where
+      less : n ≡ suc (n - 1)
+      less = omega arith
+
+      pub reach-und : ParentIs p x none → true ≡ reaches_from p n x
+      unfolding reaches_from ParentIs
+      reach-und k = sym (ap (λ (m : ℕ). reaches (tables_of [] [] p) m (line (parse x) [])) less ∙ walk-next p x (n - 1) (line (three und [] []) []) v.three s k ∙ und-reached (tables_of [] [] p) (n - 1))
+
+      pub reach-next : (y : List ℕ) → ParentIs p x (some y) → reaches_from p n x ≡ reaches_from p (n - 1) y
+      unfolding reaches_from ParentIs
+      reach-next y k = ap (λ (m : ℕ). reaches (tables_of [] [] p) m (line (parse x) [])) less ∙ walk-next p x (n - 1) (line (parse y) []) v.three s k.1
+
+pub value-ok-of : (p x y : List ℕ) → ParentIs p x (some y) → ValueOk y
+unfolding ParentIs
+value-ok-of p x y k = k.0

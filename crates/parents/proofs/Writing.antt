@@ -1,25 +1,27 @@
 -- Laws of the lines of a chain, written on the way back. Assumes nothing.
 use mathlib.Core.Path.{◌≡◌, refl, sym, ap, ap₂, ◌∙◌}
 use mathlib.Core.Bool.{Bool, true, false, cond}
-use mathlib.Core.List.{List, [], ◌∷◌, ◌++◌, append_assoc}
-use mathlib.Core.Option.{Option, none, some}
-use Prim.Native.Nat.{ℕ, zero, suc, ◌+◌, ◌-◌, ◌≤◌, ◌<◌}
+use mathlib.Core.List.{List, [], ◌∷◌, ◌++◌, append_assoc, reverse}
+use mathlib.Core.Option.{none, some}
+use Prim.Native.Nat.{ℕ, zero, suc, ◌+◌, ◌-◌, ◌≤◌, ◌<◌, zero-le}
 use native.Mathlib.Omega.{arith}
 use borrow.Author.Tests.{le-leb, lt-leb, lt-ltb, le-ltb, eq-eqb, ne_eqb, leb-true}
 use lib.Dec.{leb, ltb}
 use lib.ListN.{length, get_or, take, drop, set, length-append, length-drop}
 use lib.Seq.{sets, sets-eq, length-sets, length-take-le, take-append-le, take-take, drop-append_seam}
+use Rattle.std.specs.Prelude.{Option, Some, None}
+use Rattle.std.specs.List.{AllWithin, HoldsAt}
+use Rattle.std.proofs.lemmas.List.{get_or-reverse, length-reverse}
 use Rattle.standard.specs.Tag.{same}
 use Rattle.standard.specs.Identifier.{und}
-use Rattle.standard.proofs.General.{clash}
 use Rattle.standard.specs.Delivery.{Bytes}
 use Rattle.standard.specs.Table.{listing, lookup, rows, located}
-use Rattle.table.specs.Lines.{value_of, value_or, is_found}
-use Rattle.table.proofs.Lines.{value-located, found-located}
+use Rattle.table.specs.Lines.{value_if}
+use Rattle.table.proofs.Lines.{lookup-located}
 use Rattle.byte_string.proofs.Stores.{sets-append}
 use Rattle.parents.specs.declared.lines.Listed.{Listed}
 use Rattle.parents.specs.Texts.{last_below, last_dash, without_last, row_text, parent_by, parent_text, chain_text}
-use Rattle.parents.specs.Listed.{Bounded, Lists, listed_of, out_after, added, out_added}
+use Rattle.parents.specs.Listed.{Behind, Bounded, Lists, listed_of, out_after, added, out_added}
 
 -- the walk back to a `-`
 pub last-here : (x : Bytes) (i : ℕ) → 0 < i → get_or x (i - 1) 0 ≡ 45 → last_below i x ≡ i - 1
@@ -43,6 +45,54 @@ unfolding last_below
 last_none x zero h = refl
 last_none x (suc i) h = absurd (omega arith)
 
+-- where the code finds it, sought from the back
+abbrev pub Dash : ℕ → Type 0
+Dash b = b ≡ 45
+
+abbrev pub Other : ℕ → Type 0
+Other b = ¬ (b ≡ 45)
+
+back : (x : Bytes) (n : ℕ) → n ≤ length x → ((k : ℕ) → k < n → Other (get_or x (length x - 1 - k) 0)) → last_below (length x) x ≡ last_below (length x - n) x
+back x zero h f = let z : length x ≡ length x - 0 = omega arith in ap (λ (i : ℕ). last_below i x) z
+back x (suc n) h f =
+    let y : length x - 1 - n ≡ length x - n - 1 = omega arith in
+    let z : length x - n - 1 ≡ length x - suc n = omega arith in
+    back x n (omega arith) (λ k c. f k (omega arith)) ∙ last-below x (length x - n) (omega arith) (rw y at (f n (omega arith))) ∙ ap (λ (i : ℕ). last_below i x) z
+
+module _ (x : Bytes) where
+  others : (n : ℕ) → n ≤ length x → AllWithin Other (reverse x) 0 n → (k : ℕ) → k < n → Other (get_or x (length x - 1 - k) 0)
+  others n h f k c = rw (get_or-reverse x k 0 (omega arith)) at (f k 0 zero-le c)
+
+  dash-at : (k : ℕ) → k < length (reverse x) → HoldsAt Dash (reverse x) k → AllWithin Other (reverse x) 0 k → last_dash x ≡ length x - 1 - k
+  unfolding last_dash
+  dash-at k b y f =
+      let l = length-reverse x in
+      let z : length x - k - 1 ≡ length x - 1 - k = omega arith in
+      back x k (omega arith) (others k (omega arith) f)
+      ∙ last-here x (length x - k) (omega arith) (ap (λ (j : ℕ). get_or x j 0) z ∙ sym (get_or-reverse x k 0 (omega arith)) ∙ y 0) ∙ z
+
+  dash-none : AllWithin Other (reverse x) 0 (length (reverse x)) → last_dash x ≡ length x
+  unfolding last_dash
+  dash-none f =
+      let l = length-reverse x in
+      let z : length x - length x ≡ 0 = omega arith in
+      back x (length x) (omega arith) (others (length x) (omega arith) (rw l at f)) ∙ last_none x (length x - length x) (omega arith)
+
+  pub without-found : (k : ℕ) → k < length (reverse x) → HoldsAt Dash (reverse x) k → AllWithin Other (reverse x) 0 k → take (length x - 1 - k) x ≡ without_last x
+  unfolding without_last
+  without-found k b y f =
+      let l = length-reverse x in
+      let e = dash-at k b y f in
+      let g : ltb (last_dash x) (length x) ≡ true = lt-ltb (last_dash x) (length x) (omega arith) in
+      rw (g, without_last) (ap (λ (n : ℕ). take n x) (sym e))
+
+  pub without_none : AllWithin Other (reverse x) 0 (length (reverse x)) → (y : Bytes) → y ≡ und → y ≡ without_last x
+  unfolding without_last
+  without_none f y q =
+      let e = dash-none f in
+      let g : ltb (last_dash x) (length x) ≡ false = le-ltb (last_dash x) (length x) (omega arith) in
+      rw (g, without_last) q
+
 -- a line and its 0A
 pub put-end : (l o : Bytes) (at n : ℕ) (x : Bytes) → o ≡ sets l at x → n ≡ at + length x → set o n 10 ≡ sets l at (x ++ (10 ∷ []))
 put-end l o at n x e k = ap₂ (λ (q : Bytes) (m : ℕ). set q m 10) e k ∙ sym (sets-append l at x (10 ∷ []))
@@ -52,11 +102,11 @@ unfolding listing
 line-length x = length-append x (10 ∷ [])
 
 -- one line alone
-pub record One (at : ℕ) (out : Bytes) (x : Bytes) (r : Listed) (out' : Bytes) : Type 0 where
+pub record One (at : ℕ) (out : Bytes) (x : Bytes) (r : Option Listed) (out' : Bytes) : Type 0 where
   pub listed : r ≡ listed_of at out (x ∷ [])
   pub written : out' ≡ out_after at out (x ∷ [])
 
-pub one-short : (at : ℕ) (out x : Bytes) → length out < at + length x + 1 → One at out x (record { fits = false; end = at + length x + 1; steps = 0 }) out
+pub one-short : (at : ℕ) (out x : Bytes) → length out < at + length x + 1 → One at out x None out
 unfolding listed_of out_after
 one-short at out x h =
     let n = line-length x in
@@ -64,27 +114,13 @@ one-short at out x h =
     let f : leb (at + length x + 1) (length out) ≡ false = lt-leb (at + length x + 1) (length out) h in
     record { listed = rw (e, f); written = rw (e, f) }
 
-pub one-fits : (at : ℕ) (out x out' : Bytes) → at + length x + 1 ≤ length out → out' ≡ sets out at (x ++ (10 ∷ [])) → One at out x (record { fits = true; end = at + length x + 1; steps = 0 }) out'
+pub one-fits : (at : ℕ) (out x out' : Bytes) → at + length x + 1 ≤ length out → out' ≡ sets out at (x ++ (10 ∷ [])) → One at out x (Some (record { end = at + length x + 1; steps = 0 })) out'
 unfolding listed_of out_after listing
 one-fits at out x out' h w =
     let n = line-length x in
     let e : at + length (listing (x ∷ [])) ≡ at + length x + 1 = omega arith in
     let f : leb (at + length x + 1) (length out) ≡ true = le-leb (at + length x + 1) (length out) h in
     record { listed = rw (e, f); written = rw (e, f) w }
-
--- one line more in front
-pub record More (rest : Listed) (out : Bytes) (at : ℕ) (x : Bytes) (r : Listed) (out' : Bytes) : Type 0 where
-  pub listed : r ≡ added rest
-  pub written : out' ≡ out_added rest out at x
-
-pub more-fits : (rest : Listed) (out : Bytes) (at : ℕ) (x out' : Bytes) → rest.fits ≡ true → out' ≡ sets out at (x ++ (10 ∷ []))
-    → More rest out at x (record { fits = true; end = rest.end; steps = rest.steps + 1 }) out'
-unfolding added out_added
-more-fits rest out at x out' f w = record { listed = rw f; written = rw f w }
-
-pub more-short : (rest : Listed) (out : Bytes) (at : ℕ) (x : Bytes) → rest.fits ≡ false → More rest out at x (record { fits = false; end = rest.end; steps = rest.steps + 1 }) out
-unfolding added out_added
-more-short rest out at x f = record { listed = rw f; written = rw f }
 
 -- the row of a line
 pub row-none : (P x : Bytes) (v : ℕ) → 0 < v → row_text P v x ≡ none
@@ -97,20 +133,6 @@ unfolding row_text
 row_by P x zero h = refl
 row_by P x (suc v) h = absurd (omega arith)
 
-pub no_value : (P x : Bytes) (v : ℕ) → 0 < v → [] ≡ value_or (row_text P v x)
-unfolding value_or
-no_value P x v h = rw (row-none P x v h)
-
-pub no_row : (P x : Bytes) (v : ℕ) → 0 < v → false ≡ is_found (row_text P v x)
-unfolding is_found
-no_row P x v h = rw (row-none P x v h)
-
-pub value_found : (P x w : Bytes) (v : ℕ) → v ≤ 0 → w ≡ value_of P (located P x) → w ≡ value_or (row_text P v x)
-value_found P x w v h e = e ∙ (value-located P x ∙ ap value_or (sym (row_by P x v h)))
-
-pub row-found : (P x : Bytes) (v : ℕ) {f : Bool} → v ≤ 0 → f ≡ (located P x).found → f ≡ is_found (row_text P v x)
-row-found P x v h e = e ∙ (found-located P x ∙ ap is_found (sym (row_by P x v h)))
-
 take-le : (n : ℕ) (l : Bytes) → length (take n l) ≤ length l
 take-le zero l = omega arith
 take-le (suc n) [] = omega arith
@@ -119,28 +141,27 @@ take-le (suc n) (b ∷ bs) = let k = take-le n bs in omega (arith, k)
 pub part-le : (n m : ℕ) (l : Bytes) → length (take n (drop m l)) ≤ length l
 part-le n m l = let a = take-le n (drop m l) in let b = length-drop m l in omega (arith, a, b)
 
--- the parent of a line
-pub parent_row : (o : Option Bytes) (x w : Bytes) {f : Bool} → w ≡ value_or o → f ≡ is_found o → f ≡ true → w ≡ parent_by o x
-unfolding value_or is_found parent_by
-parent_row none x w {f = f} a b t = clash {b = f} t b
-parent_row (some v) x w a b t = a
+-- the parent of a line with v variants
+pub without-le : (w x : Bytes) → w ≡ without_last x → length x ≤ 32768 → length w ≤ 32768
+unfolding without_last
+without-le w x e h = go (ltb (last_dash x) (length x)) e
+  where
+    go : (b : Bool) → w ≡ elim b [ true ↦ take (last_dash x) x | false ↦ und ] → length w ≤ 32768
+    go true k = let t = take-le (last_dash x) x in let n = ap length k in omega arith
+    go false k = rw k (omega arith)
 
-not_found : (o : Option Bytes) {f : Bool} → f ≡ is_found o → f ≡ false → o ≡ none
-unfolding is_found
-not_found none b t = refl
-not_found (some v) {f = f} b t = clash {b = f} b t
+module _ (P : Bytes) (v : ℕ) (x : Bytes) where
+  pub by-variants : (w : Bytes) → 0 < v → w ≡ without_last x → w ≡ parent_text P v x
+  unfolding parent_text parent_by
+  by-variants w h e = rw (row-none P x v h) e
 
-pub parent-cut : (o : Option Bytes) (x : Bytes) (k : ℕ) {f : Bool} → f ≡ is_found o → f ≡ false → k ≡ last_dash x → k < length x → take k x ≡ parent_by o x
-unfolding parent_by without_last
-parent-cut o x k b t e h =
-    let g : ltb (last_dash x) (length x) ≡ true = lt-ltb (last_dash x) (length x) (omega arith) in
-    rw (not_found o b t) (rw (g, without_last) (ap (λ (n : ℕ). take n x) e))
+  pub by_row : (w : Bytes) → v ≤ 0 → some w ≡ value_if P (located P x) → w ≡ parent_text P v x
+  unfolding parent_text parent_by
+  by_row w h e = rw (row_by P x v h, ← (e ∙ sym (lookup-located P x)))
 
-pub parent-root : (o : Option Bytes) (x y : Bytes) (k : ℕ) {f : Bool} → f ≡ is_found o → f ≡ false → k ≡ last_dash x → length x ≤ k → y ≡ und → y ≡ parent_by o x
-unfolding parent_by without_last
-parent-root o x y k b t e h q =
-    let g : ltb (last_dash x) (length x) ≡ false = le-ltb (last_dash x) (length x) (omega arith) in
-    rw (not_found o b t) (rw (g, without_last) q)
+  pub by_none : (w : Bytes) → v ≤ 0 → none ≡ value_if P (located P x) → w ≡ without_last x → w ≡ parent_text P v x
+  unfolding parent_text parent_by
+  by_none w h e q = rw (row_by P x v h, ← (e ∙ sym (lookup-located P x))) q
 
 -- The lines of the walk.
 pub chain-some : (P : Bytes) (n v : ℕ) (x : Bytes) → 1 ≤ length (chain_text P n v x)
@@ -192,29 +213,39 @@ unfolding listing
 line-in-front x ls = sym (append_assoc x (10 ∷ []) (listing ls))
 
 -- a line in front of others that are listed behind it
-pub lists-more : (at next : ℕ) (out out₁ out₂ x : Bytes) (ls : List Bytes) (rest r : Listed) → next ≡ at + length x + 1 → 1 ≤ length ls
-    → Lists next out ls rest out₁ → r ≡ added rest → out₂ ≡ out_added rest out₁ at x → Lists at out (x ∷ ls) r out₂
-unfolding listed_of out_after added out_added
-lists-more at next out out₁ out₂ x ls rest r e k h a w =
+pub lists-more : (at next : ℕ) (out out₁ out₂ x : Bytes) (ls : List Bytes) (rest : Option Listed) → next ≡ at + length x + 1 → 1 ≤ length ls
+    → Lists next out ls rest out₁ → out₂ ≡ out_added rest out₁ at x → Lists at out (x ∷ ls) (added rest) out₂
+unfolding listed_of out_after
+lists-more at next out out₁ out₂ x ls rest e k h w =
     let X = x ++ (10 ∷ []) in
     let lx : length X ≡ length x + 1 = length-append x (10 ∷ []) in
     let ll : length (listing (x ∷ ls)) ≡ length X + length (listing ls) = ap length (line-in-front x ls) ∙ length-append X (listing ls) in
     let n : at + length (listing (x ∷ ls)) ≡ next + length (listing ls) = omega arith in
     let s : length ls - 1 + 1 ≡ length (x ∷ ls) - 1 = omega arith in
-    record { listed = a ∙ (ap added h.listed ∙ rw (n, s)); written = w ∙ go n ll lx (leb (next + length (listing ls)) (length out)) refl }
+    let q : added (cond (leb (next + length (listing ls)) (length out)) (Some (record { end = next + length (listing ls); steps = length ls - 1 })) None)
+    ≡ cond (leb (at + length (listing (x ∷ ls))) (length out)) (Some (record { end = at + length (listing (x ∷ ls)); steps = length (x ∷ ls) - 1 })) None
+    = rw n (ends s (leb (next + length (listing ls)) (length out))) in
+    let z : added rest ≡ added (listed_of next out ls) = ap added h.listed in
+    record { listed = z ∙ q; written = w ∙ go n lx (leb (next + length (listing ls)) (length out)) refl }
   where
-    go : at + length (listing (x ∷ ls)) ≡ next + length (listing ls) → length (listing (x ∷ ls)) ≡ length (x ++ (10 ∷ [])) + length (listing ls) → length (x ++ (10 ∷ [])) ≡ length x + 1
+    ends : length ls - 1 + 1 ≡ length (x ∷ ls) - 1 → (b : Bool) → added (cond b (Some (record { end = next + length (listing ls); steps = length ls - 1 })) None)
+        ≡ cond b (Some (record { end = next + length (listing ls); steps = length (x ∷ ls) - 1 })) None
+    ends s true = ap (λ (m : ℕ). Some (record { end = next + length (listing ls); steps = m })) s
+    ends s false = refl
+
+    go : at + length (listing (x ∷ ls)) ≡ next + length (listing ls) → length (x ++ (10 ∷ [])) ≡ length x + 1
         → (b : Bool) → leb (next + length (listing ls)) (length out) ≡ b → out_added rest out₁ at x ≡ out_after at out (x ∷ ls)
-    go n ll lx false f =
-        let g : rest.fits ≡ false = ap (λ (q : Listed). q.fits) h.listed ∙ f in
+    go n lx false f =
         let o : out₁ ≡ out = h.written ∙ rw f in
-        rw (g, n, f) o
-    go n ll lx true f =
-        let g : rest.fits ≡ true = ap (λ (q : Listed). q.fits) h.listed ∙ f in
+        let r : rest ≡ None = h.listed ∙ rw f in
+        ap (λ (q : Option Listed). out_added q out₁ at x) r ∙ rw (n, f) o
+    go n lx true f =
         let o : out₁ ≡ sets out next (listing ls) = h.written ∙ rw f in
         let b : next + length (listing ls) ≤ length out = leb-true _ _ f in
         let m : next ≡ at + length (x ++ (10 ∷ [])) = omega arith in
-        rw (g, n, f)
+        let r : rest ≡ Some (record { end = next + length (listing ls); steps = length ls - 1 }) = h.listed ∙ rw f in
+        ap (λ (q : Option Listed). out_added q out₁ at x) r
+        ∙ rw (n, f)
         (ap (λ (q : Bytes). sets q at (x ++ (10 ∷ []))) (o ∙ ap (λ (j : ℕ). sets out j (listing ls)) m)
         ∙ (sets-before out (x ++ (10 ∷ [])) (listing ls) at (omega arith) ∙ ap (sets out at) (sym (line-in-front x ls))))
 
@@ -226,67 +257,33 @@ length-after at out ls = go (leb (at + length (listing ls)) (length out))
     go true = length-sets out at (listing ls)
     go false = refl
 
-pub bounded-one : (allowed at : ℕ) (x out : Bytes) (r : Listed) (out' : Bytes) → r ≡ listed_of at out (x ∷ []) → out' ≡ out_after at out (x ∷ []) → Bounded allowed at x out r out'
+pub bounded-one : (allowed at : ℕ) (x out : Bytes) (r : Option Listed) (out' : Bytes) → r ≡ listed_of at out (x ∷ []) → out' ≡ out_after at out (x ∷ []) → Bounded allowed at x out r out'
 unfolding listed_of
-bounded-one allowed at x out r out' e w =
-    let n = line-length x in
-    let b = ap (λ (q : Listed). q.end) e in
-    record {
-      few = rw e (omega arith);
-      behind = omega (arith, n, b);
-      fits = ap (λ (q : Listed). q.fits) e ∙ ap (λ (k : ℕ). leb k (length out)) (sym b);
-      same = ap length w ∙ length-after at out (x ∷ []);
-    }
-
-length-added : (rest : Listed) (out : Bytes) (at : ℕ) (x : Bytes) → length (out_added rest out at x) ≡ length out
-unfolding out_added
-length-added rest out at x = go rest.fits
+bounded-one allowed at x out r out' e w = record { behind = rw e (go (leb (at + length (listing (x ∷ []))) (length out)) refl); same = ap length w ∙ length-after at out (x ∷ []) }
   where
-    go : (b : Bool) → length (cond b (sets out at (x ++ (10 ∷ []))) out) ≡ length out
-    go true = length-sets out at (x ++ (10 ∷ []))
-    go false = refl
+    go : (b : Bool) → leb (at + length (listing (x ∷ []))) (length out) ≡ b → Behind allowed at x out (cond b (Some (record { end = at + length (listing (x ∷ [])); steps = 1 - 1 })) None)
+    go true f = let n = line-length x in let k = leb-true _ _ f in (omega arith, omega arith, k)
+    go false f = tt
 
-pub bounded-more : (allowed at next : ℕ) (x p out : Bytes) (rest r : Listed) (out₁ out₂ : Bytes) → (allowed ≡ 0 → ⊥) → next ≡ at + length x + 1
-    → Bounded (allowed - 1) next p out rest out₁ → r ≡ added rest → out₂ ≡ out_added rest out₁ at x → Bounded allowed at x out r out₂
-unfolding added
-bounded-more allowed at next x p out rest r out₁ out₂ z e h a w =
-    let s = ap (λ (q : Listed). q.steps) a in
-    let b = ap (λ (q : Listed). q.end) a in
-    let k = ap length w ∙ length-added rest out₁ at x in
-    record {
-      few = go allowed z h.few s;
-      behind = omega (arith, h.behind, b);
-      fits = ap (λ (q : Listed). q.fits) a ∙ (h.fits ∙ ap (λ (n : ℕ). leb n (length out)) (sym b));
-      same = k ∙ h.same;
-    }
+pub bounded_none : (allowed at next : ℕ) (x p out out₁ : Bytes) → Bounded (allowed - 1) next p out None out₁ → Bounded allowed at x out None out₁
+bounded_none allowed at next x p out out₁ h = record { behind = tt; same = h.same }
+
+pub bounded-more : (allowed at next : ℕ) (x p out : Bytes) (rest : Listed) (out₁ out₂ : Bytes) → (allowed ≡ 0 → ⊥) → next ≡ at + length x + 1
+    → Bounded (allowed - 1) next p out (Some rest) out₁ → out₂ ≡ sets out₁ at (x ++ (10 ∷ [])) → Bounded allowed at x out (added (Some rest)) out₂
+bounded-more allowed at next x p out rest out₁ out₂ z e h w =
+    let b = h.behind in
+    record { behind = (go allowed z b.0, omega (arith, b.1), b.2); same = ap length w ∙ length-sets out₁ at (x ++ (10 ∷ [])) ∙ h.same }
   where
-    go : (n : ℕ) → (n ≡ 0 → ⊥) → rest.steps ≤ n - 1 → r.steps ≡ rest.steps + 1 → r.steps ≤ n
-    go zero y f s = absurd (y refl)
-    go (suc n) y f s = omega arith
+    go : (n : ℕ) → (n ≡ 0 → ⊥) → rest.steps ≤ n - 1 → rest.steps + 1 ≤ n
+    go zero y f = absurd (y refl)
+    go (suc n) y f = omega arith
 
 -- where the rest fits, so does the line in front of it
-pub front_fits : (allowed at next : ℕ) (x p out : Bytes) (rest : Listed) (out₁ : Bytes) → next ≡ at + length x + 1 → Bounded allowed next p out rest out₁
-    → rest.fits ≡ true → at + length x < length out₁
-front_fits allowed at next x p out rest out₁ e h f =
-    let b : rest.end ≤ length out = leb-true _ _ (sym h.fits ∙ f) in
-    omega (arith, h.behind, h.same)
+pub front_fits : (allowed at next : ℕ) (x p out : Bytes) (rest : Listed) (out₁ : Bytes) → next ≡ at + length x + 1 → Bounded allowed next p out (Some rest) out₁ → at + length x < length out₁
+front_fits allowed at next x p out rest out₁ e h = let b = h.behind in omega (arith, b.1, b.2, h.same)
 
-pub lists-as : {at : ℕ} {out : Bytes} {ls ms : List Bytes} {r : Listed} {out' : Bytes} → ls ≡ ms → Lists at out ms r out' → Lists at out ls r out'
+pub lists-as : {at : ℕ} {out : Bytes} {ls ms : List Bytes} {r : Option Listed} {out' : Bytes} → ls ≡ ms → Lists at out ms r out' → Lists at out ls r out'
 lists-as e h = rw e h
-
--- the parent of a line with v variants
-module _ (P : Bytes) (v : ℕ) (x : Bytes) where
-  pub by_row : (w : Bytes) {f : Bool} → w ≡ value_or (row_text P v x) → f ≡ is_found (row_text P v x) → f ≡ true → w ≡ parent_text P v x
-  unfolding parent_text
-  by_row w a b t = parent_row (row_text P v x) x w a b t
-
-  pub by-cut : (k : ℕ) {f : Bool} → f ≡ is_found (row_text P v x) → f ≡ false → k ≡ last_dash x → k < length x → take k x ≡ parent_text P v x
-  unfolding parent_text
-  by-cut k b t e h = parent-cut (row_text P v x) x k b t e h
-
-  pub by-root : (y : Bytes) (k : ℕ) {f : Bool} → f ≡ is_found (row_text P v x) → f ≡ false → k ≡ last_dash x → length x ≤ k → y ≡ und → y ≡ parent_text P v x
-  unfolding parent_text
-  by-root y k b t e h q = parent-root (row_text P v x) x y k b t e h q
 
 pub cut-le : (k : ℕ) (x : Bytes) → length x ≤ 32768 → length (take k x) ≤ 32768
 cut-le k x h = let t = take-le k x in omega arith
@@ -294,5 +291,8 @@ cut-le k x h = let t = take-le k x in omega arith
 pub root-le : (y : Bytes) → y ≡ und → length y ≤ 32768
 root-le y e = rw e (omega arith)
 
-pub rest-lists : {at : ℕ} {out : Bytes} {r : Listed} {out' : Bytes} (P : Bytes) (n v w : ℕ) (p q : Bytes) → Lists at out (chain_text P n v p) r out' → v ≡ w → p ≡ q → Lists at out (chain_text P n w q) r out'
-rest-lists P n v w p q h e f = rw (← e, ← f) h
+pub rest-lists : {at : ℕ} {out : Bytes} {r s : Option Listed} {out' : Bytes} (P : Bytes) (n v w : ℕ) (p q : Bytes) → Lists at out (chain_text P n v p) r out' → v ≡ w → p ≡ q → r ≡ s → Lists at out (chain_text P n w q) s out'
+rest-lists P n v w p q h e f g = rw (← e, ← f, ← g) h
+
+pub bounded-as : {allowed at : ℕ} {x out out' : Bytes} {r s : Option Listed} → r ≡ s → Bounded allowed at x out r out' → Bounded allowed at x out s out'
+bounded-as e h = rw (← e) h

@@ -1,125 +1,81 @@
 // The walk of parents that the check takes (14), over the texts of the parent table.
 ghost use Rattle.std.specs.Prelude.{◌≡◌, ◌≤◌, length};
 ghost use Rattle.standard.specs.Table.{rows, parent_shape, Pass};
-ghost use Rattle.table.specs.Hints.{Indexed};
-ghost use Rattle.parents.specs.Walk.{cut, ValueOk, OwnRow, ShorterAt, ParentAt, reaches_from};
+ghost use Rattle.table.specs.Lines.{value_is};
+ghost use Rattle.parents.specs.Walk.{cut, ValueOk, OwnRow, ShorterIs, ParentIs, reaches_from};
 
-use table::hints::{find_hinted, hint, opens, slot_from};
+use byte_string::same;
+use row_shapes::lsr::ends_of;
+use table::hints::{IndexedTable, opens, slot_from};
 
-// A parent: `und`, or the text of the table from at to end.
-#[derive(Clone, Copy)]
-pub struct Parent {
-    pub root: bool,
-    pub at: usize,
-    pub end: usize,
-}
-
-// The text without its last subtag; a language alone has parent `und`.
-fn shorter(p: &[u8], at: usize, end: usize) -> Parent
-    requires { (at ≤ end) × (end ≤ length p.now) × ValueOk (cut p.now at end) }
-    ensures { ShorterAt p.now at end result }
+// The text without its last subtag; none for a language alone, whose parent is `und`.
+fn shorter(text: &[u8]) -> Option<&[u8]>
+    requires { ValueOk text.now }
+    ensures { ShorterIs text.entry.now (value_is result) }
 {
-    let t = row_shapes::lsr::ends_of(&p[at..end]);
-    let l = t.language;
-    let e = t.script;
-    let n = end - at;
-    if e + 1 < n {
-        return Parent {
-            root: false,
-            at,
-            end: at + e,
-        };
-    }
-    if l + 1 < e {
-        return Parent {
-            root: false,
-            at,
-            end: at + l,
-        };
-    }
-    Parent {
-        root: true,
-        at,
-        end,
+    let ends = ends_of(text);
+    if ends.script + 1 < text.len() {
+        Some(&text[..ends.script])
+    } else if ends.language + 1 < ends.script {
+        Some(&text[..ends.language])
+    } else {
+        None
     }
 }
 
-// The parent of the text: the table's value if there is a row.
-fn parent_at(p: &[u8], own: &[u16], at: usize, end: usize) -> Parent
-    requires { Indexed p.now own.now × Pass parent_shape (rows p.now) × (at ≤ end) × (end ≤ length p.now) × ValueOk (cut p.now at end) }
-    ensures { ParentAt p.now at end result }
+// The parent of the text, the table's value if there is a row; none where it is `und` with no row.
+fn parent_of<'a>(parents: IndexedTable<'a>, text: &'a [u8]) -> Option<&'a [u8]>
+    requires { Pass parent_shape (rows parents.rows.now) × ValueOk text.now }
+    ensures { ParentIs parents.entry.rows.now text.entry.now (value_is result) }
 {
-    let f = find_hinted(p, own, &p[at..end]);
-    if f.found {
-        let start = f.start;
-        return Parent {
-            root: false,
-            at: start,
-            end: start + f.len,
-        };
+    match parents.lookup(text) {
+        Some(value) => Some(value),
+        None => shorter(text),
     }
-    shorter(p, at, end)
 }
 
 // The parent of the key of the row from i to e, which ends at the tab k. Where the key's hint names this very row, its
 // value needs no search.
-fn own_parent(p: &[u8], own: &[u16], i: usize, k: usize, e: usize) -> Parent
-    requires { Indexed p.now own.now × Pass parent_shape (rows p.now) × OwnRow p.now i k e }
-    ensures { ParentAt p.now i k result }
+fn own_parent<'a>(parents: IndexedTable<'a>, i: usize, k: usize, e: usize) -> Option<&'a [u8]>
+    requires { Pass parent_shape (rows parents.rows.now) × OwnRow parents.rows.now i k e }
+    ensures { let p = parents.entry.rows.now in ParentIs p (cut p i k) (value_is result) }
 {
-    let v = hint(own, slot_from(0, &p[i..k]));
-    if v != i + 1 {
-        return parent_at(p, own, i, k);
+    let key = &parents.rows[i..k];
+    let hint = parents.hint(slot_from(0, key));
+    if hint == i + 1 && hint <= 32767 && opens(parents.rows, i) {
+        return Some(&parents.rows[k + 1..e]);
     }
-    if 32767 < v {
-        return parent_at(p, own, i, k);
-    }
-    if !opens(p, i) {
-        return parent_at(p, own, i, k);
-    }
-    Parent {
-        root: false,
-        at: k + 1,
-        end: e,
-    }
+    parent_of(parents, key)
 }
 
 // Is the walk of parents from the text at `und` within so many steps?
-fn reaches_root(p: &[u8], own: &[u16], from: usize, to: usize, steps: usize) -> bool
-    requires { Indexed p.now own.now × Pass parent_shape (rows p.now) × (from ≤ to) × (to ≤ length p.now) × ValueOk (cut p.now from to) }
-    ensures { result ≡ reaches_from p.now steps (cut p.now from to) }
+fn reaches_root<'a>(parents: IndexedTable<'a>, from: &'a [u8], steps: usize) -> bool
+    requires { Pass parent_shape (rows parents.rows.now) × ValueOk from.now }
+    ensures { result ≡ reaches_from parents.entry.rows.now steps from.entry.now }
 {
-    let mut at = from;
-    let mut end = to;
-    let mut left = steps;
-    loop {
-        if byte_string::same(&p[at..end], b"und") {
+    let mut text = from;
+    for _step in 0..steps {
+        if same(text, b"und") {
             return true;
         }
-        if left == 0 {
-            return false;
-        }
-        let next = parent_at(p, own, at, end);
-        if next.root {
+        let Some(parent) = parent_of(parents, text) else {
             return true;
-        }
-        at = next.at;
-        end = next.end;
-        left -= 1;
+        };
+        text = parent;
     }
+    same(text, b"und")
 }
 
 // Is the walk from the key of the row from i to e, which ends at the tab k, at `und` within 8 steps?
-pub fn key_reaches_root(p: &[u8], own: &[u16], i: usize, k: usize, e: usize) -> bool
-    requires { Indexed p.now own.now × Pass parent_shape (rows p.now) × OwnRow p.now i k e }
-    ensures { result ≡ reaches_from p.now 8 (cut p.now i k) }
+pub fn key_reaches_root(parents: IndexedTable, i: usize, k: usize, e: usize) -> bool
+    requires { Pass parent_shape (rows parents.rows.now) × OwnRow parents.rows.now i k e }
+    ensures { let p = parents.entry.rows.now in result ≡ reaches_from p 8 (cut p i k) }
 {
-    if byte_string::same(&p[i..k], b"und") {
+    if same(&parents.rows[i..k], b"und") {
         return true;
     }
-    let next = own_parent(p, own, i, k, e);
-    if next.root {
-        return true;
+    match own_parent(parents, i, k, e) {
+        Some(text) => reaches_root(parents, text, 7),
+        None => true,
     }
-    reaches_root(p, own, next.at, next.end, 7)
 }

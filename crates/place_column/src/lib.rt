@@ -23,13 +23,11 @@ fn put_span(s: Span, mark: u8, out: &mut [u8], at: usize) -> usize
 }
 
 // The mark that ends a place, with which so many are left.
+#[tactic(auto, unfolding(crate::specs::Column::mark_behind))]
 fn mark_behind(left: usize) -> u8
     ensures { result ≡ mark_behind left }
 {
-    if left == 1 {
-        return b'\n';
-    }
-    b' '
+    if left == 1 { b'\n' } else { b' ' }
 }
 
 // Writes the places of the variants.
@@ -39,11 +37,8 @@ fn put_variants(places: Places, count: usize, out: &mut [u8], at: usize) -> usiz
 {
     let spans = places.variants;
     let mut end = at;
-    let mut i: usize = 0;
-    while i < count {
-        let mark = mark_behind(count - i);
-        end = put_span(spans[i], mark, out, end);
-        i += 1;
+    for i in 0..count {
+        end = put_span(spans[i], mark_behind(count - i), out, end);
     }
     end
 }

@@ -1,20 +1,16 @@
 -- Laws of standard input as it is read. Assumes nothing.
-use Rattle.std.proofs.Common.{◌≡◌, ℕ, zero, suc, ◌+◌, ◌<◌, ◌≤◌, Bool, true, false, List, [], ◌∷◌, ◌++◌, length, take, sym, refl, ap, ◌∙◌, true≢false, arith, length-append, length-take-le}
+use Rattle.std.proofs.Common.{◌≡◌, ℕ, zero, suc, ◌+◌, ◌≤◌, Bool, true, false, List, [], ◌∷◌, ◌++◌, length, take, sym, refl, ap, ◌∙◌, true≢false, arith, length-append, length-take-le}
 use Rattle.lines.specs.Squeeze.{Bytes, together}
 use Rattle.lines.specs.Reader.{HandsOver}
 use Rattle.lines.proofs.Blocks.{together-more, carried-start}
-use Rattle.program_io.specs.declared.system.Moved.{Moved}
-use Rattle.program_io.specs.declared.system.Moved.TheVariants.{Bytes as Moved-as-Bytes, None as Moved-as-None, Failed as Moved-as-Failed}
+use Rattle.std.specs.Prelude.{Result, Ok, Err}
 use Rattle.program_io.specs.declared.input.Input.{Input}
 use Rattle.program_io.specs.declared.input.Got.{Got}
 use Rattle.program_io.specs.declared.input.Last.{Last}
 use Rattle.program_io.specs.declared.input.Last.TheVariants.{Block, End, Failure}
-use Rattle.program_io.specs.declared.Loaded.{Loaded}
-use Rattle.program_io.specs.declared.Loaded.TheVariants.{Bytes as Loaded-as-Bytes}
 use Rattle.program_io.specs.declared.Status.TheVariants.{Done, Failed, Refused}
-use Rattle.program_io.specs.Calls.{Fits, loaded_by, LoadedWithin}
 use Rattle.program_io.specs.Status.{status_of}
-use Rattle.program_io.specs.Handed.{is_end, is_failure, got_by, Going, Handed, Counted, GotWithin}
+use Rattle.program_io.specs.Handed.{is_end, is_failure, IsGot, Going, Handed, Counted, GotWithin}
 
 -- Nothing was read yet.
 pub going_start : (i : Input) (piece : Bytes) → i.taken.whole ≡ 0 → i.taken.end ≡ 0 → i.bytes ≡ 0 → i.last ≡ Block → Going [] i piece
@@ -27,15 +23,13 @@ block-ne-end e = true≢false (sym (ap is_end e))
 block-ne-failure : Block ≡ Failure → ⊥
 block-ne-failure e = true≢false (sym (ap is_failure e))
 
--- the bytes that were moved
-pub fits-bytes : (m : Moved) (n room : ℕ) → m ≡ Moved-as-Bytes n → Fits m room → (0 < n) × (n ≤ room)
-fits-bytes m n room e f = rw e at f
-
 -- What was read fits the block.
-pub got-within : (m : Moved) (g : Got) (room : ℕ) → Fits m room → g ≡ got_by m → GotWithin g room
-got-within (Moved-as-Bytes n) g room f e = rw e (record { few = f.1; some = λ _. f.0; end = λ z. absurd (block-ne-end z); failure = λ z. absurd (block-ne-failure z) })
-got-within Moved-as-None g room f e = rw e (record { few = omega arith; some = λ z. absurd (block-ne-end (sym z)); end = λ _. refl; failure = λ _. refl })
-got-within Moved-as-Failed g room f e = rw e (record { few = omega arith; some = λ z. absurd (block-ne-failure (sym z)); end = λ _. refl; failure = λ _. refl })
+pub got-within : {E : Type 0} (read : Result ℕ E) (g : Got) (room : ℕ) → ((n : ℕ) → read ≡ Ok n → n ≤ room) → IsGot read g → GotWithin g room
+got-within (Ok zero) g room f e = record { few = omega (arith, e.len); some = λ z. absurd (block-ne-end (sym z ∙ e.last)); end = λ _. e.len; failure = λ _. e.len }
+got-within (Ok (suc n)) g room f e =
+    let h = f (suc n) refl in
+    record { few = omega (arith, e.len); some = λ _. omega (arith, e.len); end = λ z. absurd (block-ne-end (sym e.last ∙ z)); failure = λ z. absurd (block-ne-failure (sym e.last ∙ z)) }
+got-within (Err x) g room f e = record { few = omega (arith, e.len); some = λ z. absurd (block-ne-failure (sym z ∙ e.last)); end = λ _. e.len; failure = λ _. e.len }
 
 -- Once more: some bytes of the block were read, or none.
 module _ (i r : Input) (g : Got) (room : ℕ) (w : GotWithin g room) (n : r.got ≡ g.len) (b : r.bytes ≡ i.bytes + g.len) (l : r.last ≡ g.last) where
@@ -99,12 +93,3 @@ status-done (suc n) l false f z e = absurd (omega arith)
 status-done zero Block false f z e = refl
 status-done zero End false f z e = refl
 status-done zero Failure false f z e = absurd (true≢false e)
-
--- what was read of a file fits
-pub loaded-fits : (m : Moved) (len room : ℕ) (r : Loaded) → r ≡ loaded_by m len → len ≤ room → LoadedWithin r room
-loaded-fits (Moved-as-Bytes n) len room r e h = rw e h
-loaded-fits Moved-as-None len room r e h = rw e h
-loaded-fits Moved-as-Failed len room r e h = rw e tt
-
-pub loaded-within : (r : Loaded) (n room : ℕ) → r ≡ Loaded-as-Bytes n → LoadedWithin r room → n ≤ room
-loaded-within r n room e f = rw e at f

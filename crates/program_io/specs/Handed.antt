@@ -1,10 +1,8 @@
 -- Standard input as the programs read it: the blocks so far, one after the other, what they handed over, and how it ended.
 -- Assumes nothing.
-use Rattle.std.specs.Prelude.{◌≡◌, ℕ, ◌+◌, ◌<◌, ◌≤◌, Bool, true, false, List, [], ◌∷◌, ◌++◌, length, take}
+use Rattle.std.specs.Prelude.{◌≡◌, ℕ, ◌+◌, ◌<◌, ◌≤◌, Bool, true, false, List, [], ◌∷◌, ◌++◌, length, take, zero, suc, Result, Ok, Err}
 use Rattle.lines.specs.Squeeze.{Bytes as Text, handed_over, handed, together}
 use Rattle.lines.specs.Reader.{Carries}
-use Rattle.program_io.specs.declared.system.Moved.{Moved}
-use Rattle.program_io.specs.declared.system.Moved.TheVariants.{Bytes, None, Failed}
 use Rattle.program_io.specs.declared.input.Last.{Last}
 use Rattle.program_io.specs.declared.input.Last.TheVariants.{Block, End, Failure}
 use Rattle.program_io.specs.declared.input.Got.{Got}
@@ -22,11 +20,16 @@ is_failure Block = false
 is_failure End = false
 is_failure Failure = true
 
+-- so many bytes, and how the input went on
+pub record GotAs (n : ℕ) (l : Last) (g : Got) : Type 0 where
+  pub len : g.len ≡ n
+  pub last : g.last ≡ l
+
 -- what reading gave, as a call said it: no bytes are the end, and a call that failed is a failure
-abbrev pub got_by : Moved → Got
-got_by (Bytes n) = record { len = n; last = Block }
-got_by None = record { len = 0; last = End }
-got_by Failed = record { len = 0; last = Failure }
+abbrev pub IsGot : {E : Type 0} → Result ℕ E → Got → Type 0
+IsGot (Ok zero) g = GotAs 0 End g
+IsGot (Ok (suc n)) g = GotAs (suc n) Block g
+IsGot (Err e) g = GotAs 0 Failure g
 
 -- a block has some bytes, at most n; else there are none
 pub record GotWithin (g : Got) (n : ℕ) : Type 0 where

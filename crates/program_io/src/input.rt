@@ -3,15 +3,14 @@
 ghost use Rattle.std.specs.Prelude.{◌≡◌, ◌+◌, ◌≤◌, List, [], length, take};
 ghost use Rattle.lines.specs.Squeeze.{Bytes};
 ghost use Rattle.lines.specs.Reader.{Placed};
-ghost use Rattle.program_io.specs.Handed.{Room, Going, Handed, Counted, is_end, is_failure, got_by, GotWithin};
+ghost use Rattle.program_io.specs.Handed.{Room, Going, Handed, Counted, is_end, is_failure, IsGot, GotWithin};
 
 use crate::system;
-use crate::system::Moved;
 use lines::Taken;
 use std::io::Stdin;
 
 // What reading once more gave: a block, the end of the input, or a failure.
-#[derive(Clone, Copy)]
+#[derive(Clone, Copy, PartialEq, Eq)]
 pub enum Last {
     Block,
     End,
@@ -48,9 +47,8 @@ pub fn piece_buffer() -> [u8; 262404]
 pub fn begin() -> Input
     ensures { Placed result.taken 0 × ((piece : Bytes) → Going [] result piece) }
 {
-    let taken = Taken { whole: 0, end: 0 };
     Input {
-        taken,
+        taken: Taken { whole: 0, end: 0 },
         got: 0,
         bytes: 0,
         last: Last::Block,
@@ -62,71 +60,64 @@ pub fn begin() -> Input
 pub fn whole(i: Input) -> usize
     ensures { result ≡ i.taken.whole }
 {
-    let t = i.taken;
-    t.whole
+    i.taken.whole
 }
 
 // Has the input ended?
 pub fn is_ended(i: Input) -> bool
     ensures { result ≡ is_end i.last }
 {
-    let last = i.last;
-    match last {
-        Last::Block => false,
-        Last::End => true,
-        Last::Failure => false,
-    }
+    i.last == Last::End
 }
 
 // Has reading failed?
 pub fn has_failed(i: Input) -> bool
     ensures { result ≡ is_failure i.last }
 {
-    let last = i.last;
-    match last {
-        Last::Block => false,
-        Last::End => false,
-        Last::Failure => true,
-    }
+    i.last == Last::Failure
 }
 
-// How many bytes of the block were read, and what reading gave.
+// How many bytes of the block were read, what reading gave, and where it failed why.
 #[derive(Clone, Copy)]
 struct Got {
     len: usize,
     last: Last,
+    cause: i32,
 }
 
-// The same, as a call said it.
-fn got_of(m: Moved) -> Got
-    ensures { result ≡ got_by m }
+// The same, as a call said it: no bytes are the end.
+fn got_of(read: Result<usize, i32>) -> Got
+    ensures { IsGot read result }
 {
-    match m {
-        Moved::Bytes(len) => Got {
-            len,
-            last: Last::Block,
-        },
-        Moved::None => Got {
+    match read {
+        Ok(0) => Got {
             len: 0,
             last: Last::End,
+            cause: 0,
         },
-        Moved::Failed => Got {
+        Ok(len) => Got {
+            len,
+            last: Last::Block,
+            cause: 0,
+        },
+        Err(cause) => Got {
             len: 0,
             last: Last::Failure,
+            cause,
         },
     }
 }
 
 // Reads a block. That it calls the operating system, no promise can say. A proved loop has to end: at 2^64 bytes, which no
 // run reads, reading fails.
-fn read_block(stdin: Stdin, bytes: usize, block: &mut [u8], cause: &mut i32) -> Got
+fn read_block(stdin: Stdin, bytes: usize, block: &mut [u8]) -> Got
     ensures { GotWithin result (length block.old) × (bytes + result.len ≤ 18446744073709551615) }
 {
     if usize::MAX - bytes < block.len() {
-        return got_of(Moved::Failed);
+        return got_of(Err(0));
     }
     let mut from = stdin;
-    got_of(system::read(&mut from, block, cause))
+    got_of(system::read(&mut from, block))
 }
 
 // Reads the next block: its whole lines stand at the front of the piece, and the unfinished one behind them; at the end of
@@ -136,17 +127,13 @@ pub fn next(stdin: Stdin, i: Input, block: &mut [u8], piece: &mut [u8]) -> Input
     ensures { Placed result.taken (length piece.old) × Counted i result (length block.old)
         × ((bs : List Bytes) → Going bs i piece.old → Handed bs (take result.got block.new) result piece.new) }
 {
-    let before = i.taken;
-    let mut cause = 0;
-    let g = read_block(stdin, i.bytes, block, &mut cause);
-    let got = g.len;
-    let last = g.last;
-    let taken = lines::next_piece(before, &block[..got], piece);
+    let read = read_block(stdin, i.bytes, block);
+    let got = read.len;
     Input {
-        taken,
+        taken: lines::next_piece(i.taken, &block[..got], piece),
         got,
         bytes: i.bytes + got,
-        last,
-        cause,
+        last: read.last,
+        cause: read.cause,
     }
 }

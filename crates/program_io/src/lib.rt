@@ -7,9 +7,9 @@ pub mod output;
 pub mod system;
 pub mod warning;
 
-ghost use Rattle.std.specs.Prelude.{◌≡◌, ◌≤◌, true, false, length, take};
+ghost use Rattle.std.specs.Prelude.{◌≡◌, ◌≤◌, IfOk, IfSome, length, take};
 ghost use Rattle.tsv.specs.Fields.{table_text};
-ghost use Rattle.program_io.specs.Calls.{loaded_by, LoadedWithin};
+ghost use Rattle.program_io.specs.Calls.{loaded_by};
 ghost use Rattle.program_io.specs.Printed.{Prints};
 ghost use Rattle.program_io.specs.Status.{digit_of, status_of, EndsAs, Ends};
 ghost use Rattle.std.specs.Process.{exit_status};
@@ -17,7 +17,7 @@ ghost use Rattle.std.specs.Process.{exit_status};
 use crate::input::Input;
 use crate::output::Output;
 pub use crate::system::Streams;
-use crate::system::{Moved, cause_of, tell};
+use crate::system::{cause_of, tell};
 use std::env::{Env, FillError};
 use std::fmt::InlineText;
 use std::fs;
@@ -61,51 +61,48 @@ fn words_of(text: &str) -> &str {
     }
 }
 
-// How many bytes of a file were read: all, or as many as there is room for; that it can't be opened; or that it can't be
-// read.
+// Why a file was not read, with the system's number: it can't be opened, or it can't be read.
 #[derive(Clone, Copy)]
-pub enum Loaded {
-    Bytes(usize),
-    Missing,
-    Failed,
+enum Unloaded {
+    Missing(i32),
+    Failed(i32),
 }
 
-// What was read of a file, at its end or where reading failed.
-fn ended(m: Moved, len: usize) -> Loaded
-    ensures { result ≡ loaded_by m len }
+// How many bytes were read of a file, where a read moved nothing more: all of them at its end.
+fn ended(read: Result<usize, i32>, len: usize) -> Result<usize, i32>
+    ensures { loaded_by read len result }
 {
-    match m {
-        Moved::Bytes(_) => Loaded::Bytes(len),
-        Moved::None => Loaded::Bytes(len),
-        Moved::Failed => Loaded::Failed,
+    match read {
+        Ok(_) => Ok(len),
+        Err(cause) => Err(cause),
     }
 }
 
-// Fills the buffer, up to its end or the file's.
-fn fill<R: Read>(from: &mut R, buffer: &mut [u8], cause: &mut i32) -> Loaded
-    ensures { LoadedWithin result (length buffer.old) }
+// Fills the buffer, up to its end or the file's, and gives how many bytes those are.
+fn fill<R: Read>(from: &mut R, buffer: &mut [u8]) -> Result<usize, i32>
+    ensures { IfOk result (λ n. n ≤ length buffer.old) }
 {
     let mut len = 0;
+    // a step is as long as what was read
     while len < buffer.len() {
-        let m = system::read(from, &mut buffer[len..], cause);
-        let Moved::Bytes(n) = m else {
-            return ended(m, len);
-        };
-        len += n;
+        match system::read(from, &mut buffer[len..]) {
+            Ok(n) if n > 0 => len += n,
+            read => return ended(read, len),
+        }
     }
-    Loaded::Bytes(len)
+    Ok(len)
 }
 
-// Reads the file into the buffer; the cause is why it can't be opened or read.
-fn load<R: Files>(rt: &R, path: &str, buffer: &mut [u8], cause: &mut i32) -> Loaded
-    ensures { LoadedWithin result (length buffer.old) }
+// Reads the file into the buffer.
+fn load<R: Files>(rt: &R, path: &str, buffer: &mut [u8]) -> Result<usize, Unloaded>
+    ensures { IfOk result (λ n. n ≤ length buffer.old) }
 {
     match fs::open(rt, path) {
-        Ok(mut file) => fill(&mut file, buffer, cause),
-        Err(e) => {
-            *cause = cause_of(&e);
-            Loaded::Missing
-        }
+        Ok(mut file) => match fill(&mut file, buffer) {
+            Ok(len) => Ok(len),
+            Err(cause) => Err(Unloaded::Failed(cause)),
+        },
+        Err(e) => Err(Unloaded::Missing(cause_of(&e))),
     }
 }
 
@@ -120,56 +117,34 @@ pub fn exists(rt: &impl Files, path: &str) -> bool {
     }
 }
 
-// The length of a table, and whether it was read.
-#[derive(Clone, Copy)]
-pub struct Table {
-    pub len: usize,
-    pub read: bool,
-}
-
-// Reads a table of the current folder into the buffer. One that can't be opened counts as zero bytes, and is named; one that
-// can't be read is no table.
+// Reads a table of the current folder into the buffer, and gives its length. One that can't be opened counts as zero bytes,
+// and is named; one that can't be read is no table, and is named too.
 pub fn load_table(
     rt: &impl Files,
     stderr: Stderr,
     program: &[u8],
     name: &str,
     buffer: &mut [u8],
-) -> Table
-    ensures in_bounds { result.len ≤ length buffer.new }
-    ensures prefix { result.len ≡ length (take result.len buffer.new) }
+) -> Option<usize>
+    ensures in_bounds { IfSome result (λ len. len ≤ length buffer.new) }
+    ensures prefix { IfSome result (λ len. len ≡ length (take len buffer.new)) }
 {
-    let mut cause = 0;
-    let r = load(rt, name, buffer, &mut cause);
-    match r {
-        Loaded::Bytes(len) => Table { len, read: true },
-        Loaded::Missing => missing(stderr, program, name, cause),
-        Loaded::Failed => unread(stderr, program, name, cause),
-    }
-}
-
-// A table of zero bytes, and a line that says so.
-fn missing(stderr: Stderr, program: &[u8], name: &str, cause: i32) -> Table
-    ensures { (result.len ≡ 0) × (result.read ≡ true) }
-{
-    say_failed(
-        stderr,
-        program,
-        name.as_bytes(),
-        b" counts as zero bytes",
-        cause,
-    );
-    Table { len: 0, read: true }
-}
-
-// No table, and a line that says so.
-fn unread(stderr: Stderr, program: &[u8], name: &str, cause: i32) -> Table
-    ensures { (result.len ≡ 0) × (result.read ≡ false) }
-{
-    say_failed(stderr, program, name.as_bytes(), b"", cause);
-    Table {
-        len: 0,
-        read: false,
+    match load(rt, name, buffer) {
+        Ok(len) => Some(len),
+        Err(Unloaded::Missing(cause)) => {
+            say_failed(
+                stderr,
+                program,
+                name.as_bytes(),
+                b" counts as zero bytes",
+                cause,
+            );
+            Some(0)
+        }
+        Err(Unloaded::Failed(cause)) => {
+            say_failed(stderr, program, name.as_bytes(), b"", cause);
+            None
+        }
     }
 }
 

@@ -47,17 +47,16 @@ pub fn print(stdout: Stdout, o: Output, text: &[u8]) -> Output
         return o;
     }
     let mut to = stdout;
-    let mut cause = 0;
-    if !write_all(&mut to, text, &mut cause) {
-        return Output {
+    match write_all(&mut to, text) {
+        Ok(()) => Output {
+            bytes: o.bytes.wrapping_add(text.len()),
+            failed: false,
+            cause: 0,
+        },
+        Err(cause) => Output {
             bytes: o.bytes,
             failed: true,
             cause,
-        };
-    }
-    Output {
-        bytes: o.bytes.wrapping_add(text.len()),
-        failed: false,
-        cause,
+        },
     }
 }

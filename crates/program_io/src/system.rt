@@ -1,7 +1,7 @@
 // Calls of the operating system, tried again where a signal interrupted them. What it did, no promise can say; what its
 // answers mean, `told` settles.
-ghost use Rattle.std.specs.Prelude.{◌≡◌, length};
-ghost use Rattle.program_io.specs.Calls.{told_by, Fits};
+ghost use Rattle.std.specs.Prelude.{◌≤◌, IfOk, length};
+ghost use Rattle.program_io.specs.Calls.{TellsOf};
 
 use std::io;
 use std::io::{ErrorKind, Read, Stderr, Stdin, Stdout, Write};
@@ -14,22 +14,13 @@ pub struct Streams {
     pub stderr: Stderr,
 }
 
-// What a call that moves bytes says: how many it moved, that there are none (the end of a file), or that it failed.
-#[derive(Clone, Copy)]
-pub enum Moved {
-    Bytes(usize),
-    None,
-    Failed,
-}
-
-// What the answer of a call means: an error is a failure, 0 the end.
-fn told(got: &io::Result<usize>) -> Moved
-    ensures { result ≡ told_by got.now }
+// What the answer of a call means: how many bytes it moved, none at the end of a file, or the system's number for why it failed.
+fn told(got: &io::Result<usize>) -> Result<usize, i32>
+    ensures { TellsOf got.now result }
 {
     match got {
-        Ok(0) => Moved::None,
-        Ok(n) => Moved::Bytes(*n),
-        Err(_) => Moved::Failed,
+        Ok(n) => Ok(*n),
+        Err(e) => Err(cause_of(e)),
     }
 }
 
@@ -41,70 +32,53 @@ fn is_interrupted(got: &io::Result<usize>) -> bool {
     }
 }
 
-// The system's number for why a call failed; 0 where it did not.
+// The system's number for why a call failed; 0 where it has none.
 pub(crate) fn cause_of(e: &io::Error) -> i32 {
-    match e.raw_os_error() {
-        Some(code) => code,
-        None => 0,
-    }
+    e.raw_os_error().unwrap_or(0)
 }
 
-// The same of the call that said this.
-fn cause_in(got: &io::Result<usize>) -> i32 {
-    match got {
-        Ok(_) => 0,
-        Err(e) => cause_of(e),
-    }
-}
-
-// Reads into buf; the cause is why that failed.
-pub(crate) fn read<R: Read>(from: &mut R, buf: &mut [u8], cause: &mut i32) -> Moved
-    ensures { Fits result (length buf.old) }
+// Reads into buf.
+pub(crate) fn read<R: Read>(from: &mut R, buf: &mut [u8]) -> Result<usize, i32>
+    ensures { IfOk result (λ n. n ≤ length buf.old) }
 {
-    let mut left = u64::MAX;
-    while left > 0 {
+    for _ in 0..u64::MAX {
         let got = from.read(buf);
         if !is_interrupted(&got) {
-            *cause = cause_in(&got);
             return told(&got);
         }
-        left -= 1;
     }
-    Moved::Failed
+    Err(0)
 }
 
-// Writes the front of buf; the cause is why that failed.
-fn write<W: Write>(to: &mut W, buf: &[u8], cause: &mut i32) -> Moved
-    ensures { Fits result (length buf.now) }
+// Writes the front of buf.
+fn write<W: Write>(to: &mut W, buf: &[u8]) -> Result<usize, i32>
+    ensures { IfOk result (λ n. n ≤ length buf.now) }
 {
-    let mut left = u64::MAX;
-    while left > 0 {
+    for _ in 0..u64::MAX {
         let got = to.write(buf);
         if !is_interrupted(&got) {
-            *cause = cause_in(&got);
             return told(&got);
         }
-        left -= 1;
     }
-    Moved::Failed
+    Err(0)
 }
 
-// Writes all of buf, and answers whether it could; the cause is why not.
-pub(crate) fn write_all<W: Write>(to: &mut W, buf: &[u8], cause: &mut i32) -> bool {
+// Writes all of buf. A call that writes nothing has failed.
+pub(crate) fn write_all<W: Write>(to: &mut W, buf: &[u8]) -> Result<(), i32> {
     let mut from = 0;
+    // a step is as long as what was written
     while from < buf.len() {
-        let m = write(to, &buf[from..], cause);
-        let Moved::Bytes(n) = m else {
-            return false;
-        };
+        let n = write(to, &buf[from..])?;
+        if n == 0 {
+            return Err(0);
+        }
         from += n;
     }
-    true
+    Ok(())
 }
 
 // Writes all of a text on standard error; a failure there is nowhere to be said.
 pub(crate) fn tell(stderr: Stderr, text: &[u8]) {
     let mut to = stderr;
-    let mut cause = 0;
-    write_all(&mut to, text, &mut cause);
+    let _unsaid = write_all(&mut to, text);
 }

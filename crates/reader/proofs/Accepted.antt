@@ -11,7 +11,7 @@ use lib.ListN.{length, drop, length-drop, length-append}
 use lib.Seq.{drop-drop}
 use Rattle.standard.specs.Tag.{Tag, same, head_tag, All}
 use Rattle.standard.specs.Grammar.{Kind, a_script, a_region, a_variant, a_none, kind_of, is_language, is_variant, is_singleton, flat, only}
-use Rattle.standard.specs.Identifier.{three, part, parts}
+use Rattle.standard.specs.Identifier.{part, parts}
 use Rattle.standard.specs.Reading.{no_bytes, too_long, unclean, bad_tag, wrong_size, optional, split, root, start, by_part, part_fault, no_language, is_x, up_to, from, grammar_fault, fault_by, fault_of, find, core_of, after_first, identifier_of}
 use Rattle.standard.proofs.General.{bool_cases, le-or-lt}
 use Rattle.standard.proofs.Faults.{none-bad_tag, after-root}

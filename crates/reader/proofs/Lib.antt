@@ -5,7 +5,6 @@ pub mod Choices
 pub mod Bits
 pub mod Sets
 pub mod Places
-pub mod Cutting
 pub mod Loop
 pub mod Stepping
 pub mod Outcomes

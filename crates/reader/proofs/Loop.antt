@@ -8,16 +8,15 @@ use native.Mathlib.Numerals.{add-one}
 use native.Mathlib.Omega.{arith}
 use lib.Dec.{eqb}
 use lib.ListN.{length, get_or, take, drop, length-set, drop_of_length-le}
-use lib.Seq.{drop-cons, take-suc-set, length-take-le, get_or-take}
-use borrow.Author.Tests.{eq-eqb, ne_eqb}
+use lib.Seq.{take-suc-set}
+use Rattle.std.specs.List.{list_any}
 use Rattle.standard.specs.Tag.{Tag, head_tag}
 use Rattle.standard.specs.Reading.{split, after_first}
 use Rattle.subtag.specs.declared.Subtag.{Subtag}
 use Rattle.subtag.specs.Subtags.{first_byte, key_of, subtag_of}
 use Rattle.subtag.proofs.Walk.{split-cons, judged, scanned-len, scanned-fits, walk_more, walk_end}
 use Rattle.reader.specs.declared.Parts.{Parts}
-use Rattle.reader.specs.declared.marks.Marking.{Marking}
-use Rattle.reader.specs.declared.marks.Marking.TheVariants.{New, Repeat}
+use Rattle.std.specs.Prelude.{Option, Some, None}
 use Rattle.reader.specs.declared.steps.Verdict.{Verdict}
 use Rattle.reader.specs.declared.steps.Verdict.TheVariants as verdicts
 use Rattle.reader.specs.declared.steps.Stage.{Stage}
@@ -76,13 +75,13 @@ module _ (s : List ℕ) (at : ℕ) (t : Subtag) (st n : State) (v : Verdict) (h 
   unfolding steps rest
   turn-plain e = cons ∙ rw (h.next, h.verdict, e, steps) (rw (h.next, h.len_is))
 
-  pub turn-repeat : v ≡ verdicts.Singleton → (m : Marking) → m ≡ marked_with set t.first → m ≡ Repeat → Now ≡ refused 6 at
+  pub turn-repeat : v ≡ verdicts.Singleton → (m : Option ℕ) → m ≡ marked_with set t.first → m ≡ None → Now ≡ refused 6 at
   unfolding steps subtag_of
-  turn-repeat e m f g = let k : marked_with set (first_byte (here s at)) ≡ Repeat = ap (λ (u : Subtag). marked_with set u.first) (sym h.is) ∙ sym f ∙ g in cons ∙ rw (h.next, h.verdict, e, k, steps)
+  turn-repeat e m f g = let k : marked_with set (first_byte (here s at)) ≡ None = ap (λ (u : Subtag). marked_with set u.first) (sym h.is) ∙ sym f ∙ g in cons ∙ rw (h.next, h.verdict, e, k, steps)
 
-  pub turn-new : v ≡ verdicts.Singleton → (m : Marking) → m ≡ marked_with set t.first → (k : ℕ) → m ≡ New k → Now ≡ rest s at t.len n p k []
+  pub turn-new : v ≡ verdicts.Singleton → (m : Option ℕ) → m ≡ marked_with set t.first → (k : ℕ) → m ≡ Some k → Now ≡ rest s at t.len n p k []
   unfolding steps subtag_of rest
-  turn-new e m f k g = let q : marked_with set (first_byte (here s at)) ≡ New k = ap (λ (u : Subtag). marked_with set u.first) (sym h.is) ∙ sym f ∙ g in cons ∙ rw (h.next, h.verdict, e, q, steps) (rw (h.next, h.len_is))
+  turn-new e m f k g = let q : marked_with set (first_byte (here s at)) ≡ Some k = ap (λ (u : Subtag). marked_with set u.first) (sym h.is) ∙ sym f ∙ g in cons ∙ rw (h.next, h.verdict, e, q, steps) (rw (h.next, h.len_is))
 
   pub turn-listed : v ≡ verdicts.Listed → Now ≡ on_listed (among t.key keys) s at t.len n p set keys t.key
   unfolding steps subtag_of rest on_listed
@@ -106,22 +105,11 @@ module _ (s : List ℕ) (at len : ℕ) (e : len ≡ length (here s at)) (n : Sta
       let z : at + suc len ≡ at + len + 1 = omega arith in
       ap (λ (ts : List Tag). steps n (cut n (at + len) p) set keys at (at + suc len) (after_first ts)) (walk_more s at len e h) ∙ rw z
 
--- The scan of the numbers before.
-module _ (key : ℕ) (xs : List ℕ) (i : ℕ) where
-  pub among-end : length xs ≤ i → among key (drop i xs) ≡ false
-  unfolding among
-  among-end h = ap (among key) (drop_of_length-le xs h)
-
-  module _ (h : i < length xs) where
-    among-step : among key (drop i xs) ≡ (eqb (get_or xs i 0) key || among key (drop (i + 1) xs))
-    unfolding among
-    among-step = rw (add-one, drop-cons xs i 0)
-
-    pub among-here : get_or xs i 0 ≡ key → among key (drop i xs) ≡ true
-    among-here e = among-step ∙ simp (eq-eqb (get_or xs i 0) key e)
-
-    pub among_later : (get_or xs i 0 ≡ key → ⊥) → among key (drop i xs) ≡ among key (drop (i + 1) xs)
-    among_later e = among-step ∙ simp (ne_eqb (get_or xs i 0) key e)
+-- What `contains` finds among the numbers before.
+pub among-any : (key : ℕ) (xs : List ℕ) → list_any (λ (x : ℕ). eqb x key) xs ≡ among key xs
+unfolding among
+among-any key [] = refl
+among-any key (x ∷ xs) = ap (◌||◌ (eqb x key)) (among-any key xs)
 
 -- The walk's invariants: before a subtag; while its number is held against those before; and behind it.
 pub record Walking (id listed : List ℕ) (count set : ℕ) (st : State) (p : Parts) (back at : ℕ) : Type 0 where
@@ -132,15 +120,6 @@ pub record Walking (id listed : List ℕ) (count set : ℕ) (st : State) (p : Pa
   pub variants : p.variant_count ≤ at
   pub outcome : steps_of id ≡ steps st p set (take count listed) back at (split (drop at id))
 
-pub record Scanning (id listed : List ℕ) (count set : ℕ) (p : Parts) (at : ℕ) (t : Subtag) (n : State) (key i : ℕ) : Type 0 where
-  pub short : length id ≤ 255
-  pub within : at ≤ length id
-  pub few : count ≤ at
-  pub room : length listed ≡ 256
-  pub variants : p.variant_count ≤ at
-  pub upto : i ≤ count
-  pub outcome : steps_of id ≡ on_listed (among key (drop i (take count listed))) id at t.len n p set (take count listed) key
-
 pub record Behind (id listed : List ℕ) (count set : ℕ) (p : Parts) (at : ℕ) (t : Subtag) (n : State) : Type 0 where
   pub few : count ≤ at + 1
   pub room : length listed ≡ 256
@@ -150,62 +129,36 @@ pub walking_start : (id listed : List ℕ) → length id ≤ 255 → length list
 unfolding steps_of unread
 walking_start id listed h k p e = rw e (record { short = h; within = omega arith; few = omega arith; room = k; variants = omega arith; outcome = refl })
 
-module _ (id listed : List ℕ) (count set : ℕ) (p : Parts) (at : ℕ) (t : Subtag) (n : State) (key : ℕ) where
-  pub scan-start : (st : State) (v : Verdict) (back : ℕ) → Walking id listed count set st p back at → Told id at t st n v → v ≡ verdicts.Listed → t.key ≡ key → Scanning id listed count set p at t n key 0
-  scan-start st v back w h e k =
-      record {
-        short = w.short;
-        within = w.within;
-        few = w.few;
-        room = w.room;
-        variants = w.variants;
-        upto = omega arith;
-        outcome = rw (← k) (w.outcome ∙ turn-listed id at t st n v h p set (take count listed) back e);
-      }
-
-  module _ (i : ℕ) (c : Scanning id listed count set p at t n key i) where
-    bounds : i < count → i < length (take count listed)
-    bounds h = let f = c.few in let s = c.short in let w = c.within in let r = c.room in rw (length-take-le count listed (omega arith)) h
-
-    pub scan-here : i < count → get_or listed i 0 ≡ key → steps_of id ≡ refused 6 at
-    unfolding on_listed
-    scan-here h e =
-        let b = bounds h in
-        c.outcome ∙ ap (λ (x : Bool). on_listed x id at t.len n p set (take count listed) key) (among-here key (take count listed) i b (get_or-take count listed i 0 h ∙ e))
-
-    pub scan-more : i < count → (get_or listed i 0 ≡ key → ⊥) → Scanning id listed count set p at t n key (i + 1)
-    scan-more h e =
-        let b = bounds h in
-        record {
-          short = c.short;
-          within = c.within;
-          few = c.few;
-          room = c.room;
-          variants = c.variants;
-          upto = omega arith;
-          outcome = c.outcome ∙ ap (λ (x : Bool). on_listed x id at t.len n p set (take count listed) key) (among_later key (take count listed) i b (λ f. e (sym (get_or-take count listed i 0 h) ∙ f)));
-        }
-
-    pub scan-end : count ≤ i → Behind id (lib.ListN.set listed count key) (count + 1) set p at t n
-    unfolding on_listed
-    scan-end h =
-        let f = c.few in
-        let s = c.short in
-        let w = c.within in
-        let r = c.room in
-        let l = length-take-le count listed (omega arith) in
-        record {
-          few = omega arith;
-          room = length-set listed count key ∙ r;
-          outcome = c.outcome ∙ ap (λ (x : Bool). on_listed x id at t.len n p set (take count listed) key) (among-end key (take count listed) i (omega arith))
-              ∙ ap (λ (x : List ℕ). rest id at t.len n p set x) (sym (rw add-one (take-suc-set listed count key (omega arith))));
-        }
-
 module _ (id listed : List ℕ) (count set : ℕ) (st : State) (p : Parts) (back at : ℕ) (w : Walking id listed count set st p back at) (t : Subtag) (n : State) (v : Verdict) (h : Told id at t st n v) where
   pub behind-plain : v ≡ verdicts.Plain → Behind id listed count set p at t n
   behind-plain e = record { few = let f = w.few in omega arith; room = w.room; outcome = w.outcome ∙ turn-plain id at t st n v h p set (take count listed) back e }
 
-  pub behind-new : v ≡ verdicts.Singleton → (m : Marking) → m ≡ marked_with set t.first → (k : ℕ) → m ≡ New k → Behind id listed 0 k p at t n
+  -- its number among those before, and not
+  module _ (e : v ≡ verdicts.Listed) (r : Bool) (f : r ≡ list_any (λ (x : ℕ). eqb x t.key) (take count listed)) where
+    turn : steps_of id ≡ on_listed r id at t.len n p set (take count listed) t.key
+    turn =
+        w.outcome ∙ turn-listed id at t st n v h p set (take count listed) back e
+        ∙ ap (λ (b : Bool). on_listed b id at t.len n p set (take count listed) t.key) (sym (among-any t.key (take count listed)) ∙ sym f)
+
+    pub again : r ≡ true → steps_of id ≡ refused 6 at
+    unfolding on_listed
+    again g = turn ∙ ap (λ (b : Bool). on_listed b id at t.len n p set (take count listed) t.key) g
+
+    pub behind-listed : r ≡ false → Behind id (lib.ListN.set listed count t.key) (count + 1) set p at t n
+    unfolding on_listed
+    behind-listed g =
+        let few = w.few in
+        let short = w.short in
+        let within = w.within in
+        let room = w.room in
+        record {
+          few = omega arith;
+          room = length-set listed count t.key ∙ room;
+          outcome = turn ∙ ap (λ (b : Bool). on_listed b id at t.len n p set (take count listed) t.key) g
+              ∙ ap (λ (x : List ℕ). rest id at t.len n p set x) (sym (rw add-one (take-suc-set listed count t.key (omega arith))));
+        }
+
+  pub behind-new : v ≡ verdicts.Singleton → (m : Option ℕ) → m ≡ marked_with set t.first → (k : ℕ) → m ≡ Some k → Behind id listed 0 k p at t n
   behind-new e m f k g = record { few = omega arith; room = w.room; outcome = w.outcome ∙ turn-new id at t st n v h p set (take count listed) back e m f k g }
 
 count-stage : (s : Stage) (end : ℕ) (p : Parts) → (cut_stage s end p).variant_count ≤ p.variant_count + 1

@@ -1,18 +1,17 @@
 -- The order of the tests: bytes, sizes, then the walk. Assumes nothing.
 use mathlib.Core.Path.{◌≡◌, refl, sym, ap, ◌∙◌}
-use mathlib.Core.Bool.{Bool, true, false, not}
+use mathlib.Core.Bool.{Bool, true, false, not, cond}
 use mathlib.Core.List.{List, [], ◌∷◌}
 use mathlib.Core.Logic.{⊎_elim}
 use mathlib.Core.Option.{Option, none}
 use Prim.Native.Nat.{ℕ, suc, ◌+◌, ◌-◌, ◌≤◌, ◌<◌}
 use native.Mathlib.Numerals.{add-one}
 use native.Mathlib.Omega.{arith}
-use lib.ListN.{length, get_or, drop, drop_of_length-le}
-use lib.Seq.{drop-cons}
+use lib.ListN.{length, drop}
 use borrow.Author.Tests.{le-leb, lt-leb}
 use Rattle.standard.specs.Tag.{Tag, head_tag, All}
 use Rattle.standard.specs.Reading.{Fault, fault, first_of, no_bytes, too_long, clean, unclean, bad_tag, wrong_size, split, after_first, by_part, grammar_fault, fault_by, fault_of}
-use Rattle.standard.proofs.General.{bool_cases, clash, le-or-lt}
+use Rattle.standard.proofs.General.{clash, le-or-lt}
 use Rattle.standard.proofs.Groups.{Lacks}
 use Rattle.standard.proofs.Faults.{none-bad_tag}
 use Rattle.standard.proofs.Shapes.{Word}
@@ -20,30 +19,24 @@ use Rattle.subtag.specs.Subtags.{PlainTag}
 use Rattle.subtag.proofs.Keys.{word-plain, split-words}
 use Rattle.subtag.proofs.Shapes.{wrong-empty, wrong-long, right-size}
 use Rattle.subtag.proofs.Walk.{split-cons, walk_more, walk_end}
-use Rattle.reader.specs.declared.Found.{Found}
-use Rattle.reader.specs.declared.Found.TheVariants.{At, Nothing}
+use Rattle.std.specs.Prelude as code
+use Rattle.std.specs.List.{position_from}
+use Rattle.std.specs.Prelude.{Some, None}
 use Rattle.reader.specs.Parts.{refused, outcome_as, outcome, found_as}
 use Rattle.reader.specs.Steps.{steps_of}
 use Rattle.reader.proofs.Parting.{walked}
 use Rattle.reader.proofs.Stepping.{Fine, walked-steps}
 
--- The bytes from an index on.
-module _ (s : List ℕ) (i : ℕ) (h : i < length s) where
-  byte_step : unclean i (drop i s) ≡ elim (clean (get_or s i 0)) [ true ↦ unclean (i + 1) (drop (i + 1) s) | false ↦ fault 3 i ]
-  unfolding unclean
-  byte_step =
-      ap (unclean i) (drop-cons s i 0 h)
-      ∙ ap (λ (n : ℕ). elim (clean (get_or s i 0)) [ true ↦ unclean n (drop n s) | false ↦ fault 3 i ]) (sym (add-one i))
-
-  pub byte-bad : (r : Bool) → r ≡ not (clean (get_or s i 0)) → r ≡ true → unclean i (drop i s) ≡ fault 3 i
-  byte-bad r e f = byte_step ∙ bool_cases (clean (get_or s i 0)) (λ g. clash f (e ∙ ap not g)) (λ g. rw g)
-
-  pub byte-good : (r : Bool) → r ≡ not (clean (get_or s i 0)) → r ≡ false → unclean i (drop i s) ≡ unclean (i + 1) (drop (i + 1) s)
-  byte-good r e f = byte_step ∙ bool_cases (clean (get_or s i 0)) (λ g. rw g) (λ g. clash (e ∙ ap not g) f)
-
-pub byte-end : (s : List ℕ) (i : ℕ) → length s ≤ i → unclean i (drop i s) ≡ none
-unfolding unclean
-byte-end s i h = ap (unclean i) (drop_of_length-le s h)
+-- The first byte that is foreign, by its place.
+pub unclean-from : (i : ℕ) (x : List ℕ) → found_as 3 (position_from (λ b. not (clean b)) i x) ≡ unclean i x
+unfolding unclean found_as
+unclean-from i [] = refl
+unclean-from i (b ∷ x) = go (clean b) (unclean-from (i + 1) x)
+  where
+    go : (r : Bool) → found_as 3 (position_from (λ b. not (clean b)) (i + 1) x) ≡ unclean (i + 1) x
+        → found_as 3 (cond (not r) (Some i) (position_from (λ b. not (clean b)) (i + 1) x)) ≡ elim r [ true ↦ unclean (suc i) x | false ↦ fault 3 i ]
+    go true e = e ∙ ap (λ (n : ℕ). unclean n x) (add-one i)
+    go false e = refl
 
 -- The subtags from a place on.
 module _ (s : List ℕ) (at len : ℕ) (e : len ≡ length (head_tag (split (drop at s)))) where
@@ -114,16 +107,16 @@ module _ (x : List ℕ) (h : 0 < length x) (k : length x ≤ 255) where
   unfolding fault_of fault_by first_of
   in_size = rw (no_bytes_lem x h) (rw (short-enough x k))
 
-  pub outcome-byte : (f : Found) (at : ℕ) → found_as 3 f ≡ unclean 0 x → f ≡ At at → refused 3 at ≡ outcome x
+  pub outcome-byte : (f : code.Option ℕ) (at : ℕ) → found_as 3 f ≡ unclean 0 x → f ≡ Some at → refused 3 at ≡ outcome x
   unfolding outcome first_of outcome_as found_as
   outcome-byte f at e g = rw (in_size, ← e, g)
 
   module _ (c : unclean 0 x ≡ none) where
-    pub outcome-size : (f : Found) (at : ℕ) → found_as 4 f ≡ bad_tag 4 wrong_size 0 (split x) → f ≡ At at → refused 4 at ≡ outcome x
+    pub outcome-size : (f : code.Option ℕ) (at : ℕ) → found_as 4 f ≡ bad_tag 4 wrong_size 0 (split x) → f ≡ Some at → refused 4 at ≡ outcome x
     unfolding outcome first_of outcome_as found_as
     outcome-size f at e g = rw (in_size, c, ← e, g)
 
-    pub outcome-walk : (f : Found) → found_as 4 f ≡ bad_tag 4 wrong_size 0 (split x) → f ≡ Nothing → steps_of x ≡ outcome x
+    pub outcome-walk : (f : code.Option ℕ) → found_as 4 f ≡ bad_tag 4 wrong_size 0 (split x) → f ≡ None → steps_of x ≡ outcome x
     unfolding outcome first_of found_as steps_of
     outcome-walk f e g =
         let n : bad_tag 4 wrong_size 0 (split x) ≡ none = sym e ∙ ap (found_as 4) g in

@@ -1,26 +1,18 @@
 -- The places of the singletons' bytes: in range, and different for different bytes in lower case. Assumes nothing.
 use mathlib.Core.Path.{◌≡◌, refl, sym, ap, ◌∙◌}
-use mathlib.Core.Bool.{Bool, true, false}
+use mathlib.Core.Bool.{true}
 use mathlib.Core.Logic.{◌⊎◌, inl, inr}
-use Prim.Native.Nat.{ℕ, ◌-◌, ◌≤◌, ◌^◌}
+use Prim.Native.Nat.{ℕ, ◌-◌, ◌≤◌}
 use native.Mathlib.Omega.{arith}
-use lib.Bits.{bit_or}
 use lib.Dec.{eqb}
 use borrow.Author.Tests.{eq-eqb, ne_eqb, eqb-true, eqb-false}
-use Rattle.standard.specs.Grammar.{small, capital, digit}
 use Rattle.standard.proofs.General.{bool_cases, clash}
 use Rattle.standard.proofs.Bytes.{word}
 use Rattle.subtag.specs.declared.Class.{Class}
 use Rattle.subtag.specs.declared.Class.TheVariants.{Small, Capital, Digit, Separator, Other}
 use Rattle.subtag.specs.Bytes.{class_of, is_small, is_capital, is_digit}
 use Rattle.subtag.proofs.Bytes.{classed, small-in, capital-in, digit-in}
-use Rattle.reader.specs.declared.marks.Marking.TheVariants.{New, Repeat}
-use Rattle.reader.specs.Marks.{place_as, place_of, bit, marked_with}
-
-module _ (b : ℕ) (k l : Class) (e : k ≡ class_of b) (f : k ≡ l) where
-  pub place-as : place_as l b ≡ place_of b
-  unfolding place_of
-  place-as = ap (λ (c : Class). place_as c b) (sym f ∙ e)
+use Rattle.reader.specs.Marks.{place_as, place_of}
 
 module _ (b : ℕ) (k : Class) (e : k ≡ class_of b) where
   pub digit_low : k ≡ Digit → 48 ≤ b
@@ -42,15 +34,6 @@ place_in b = go (class_of b) refl
     go Digit e = let h = digit-in b ((classed b).digit ∙ ap is_digit e) in rw e (omega arith)
     go Separator e = rw e (omega arith)
     go Other e = rw e (omega arith)
-
--- what is given back
-pub mark-repeat : (set b p : ℕ) (r : Bool) → p ≡ place_of b → r ≡ eqb (bit set p) 1 → r ≡ true → Repeat ≡ marked_with set b
-unfolding marked_with
-mark-repeat set b p r e f g = rw (← e, ← f, g, marked_with)
-
-pub mark-new : (set b p m : ℕ) (r : Bool) → p ≡ place_of b → r ≡ eqb (bit set p) 1 → r ≡ false → m ≡ bit_or set (2 ^ p) → New m ≡ marked_with set b
-unfolding marked_with
-mark-new set b p m r e f g h = rw (← e, ← f, g, h, marked_with) (ap (λ (q : ℕ). New (bit_or set (2 ^ q))) e)
 
 -- bytes in lower case
 pub record Lower (b : ℕ) : Type 0 where

@@ -12,14 +12,14 @@ use Rattle.standard.specs.Tag.{Tag, same, head_tag}
 use Rattle.standard.specs.Grammar.{a_script, a_region, is_language, title, upper}
 use Rattle.standard.specs.Identifier.{three, und}
 use Rattle.standard.specs.Reading.{Fault, split, root, find, core_of, identifier_of, fault_of, good, bad, read_as, read}
-use Rattle.standard.specs.Report.{Report, report_of, report}
+use Rattle.standard.specs.Report.{report_of, report}
 use Rattle.standard.proofs.General.{bool_cases}
 use Rattle.reader.specs.declared.Start.TheVariants.{Language, Script, Root}
 use Rattle.reader.specs.declared.Parts.{Parts}
 use Rattle.reader.specs.Parts.{parts, refused, start_of, parts_of, outcome_as, outcome}
 use Rattle.subtag.specs.Bytes.{cased}
 use Rattle.subtag.proofs.Cased.{cased-title, cased-upper}
-use Rattle.reader.specs.Words.{later_word, LaterFits, refused_report, parts_report}
+use Rattle.reader.specs.Words.{later_word, refused_report, parts_report}
 use Rattle.reader.proofs.Words.{cased-none}
 use Rattle.reader.proofs.Accepted.{Named, named}
 
@@ -64,9 +64,6 @@ module _ (x : List ℕ) (from to n : ℕ) (w : Tag) where
   lent : (at : ℕ) → head_tag (split (take (length x - at) (drop at x))) ≡ head_tag (split (drop at x))
   lent at = ap (λ (y : List ℕ). head_tag (split y)) (take_all (length x - at) (drop at x) (simp length-drop (omega arith)))
 
-  pub later-short : LaterFits from to x → from < to → length (head_tag (split (take (length x - (from + 1)) (drop (from + 1) x)))) ≤ 8
-  later-short f h = rw (lent (from + 1)) (f.short h)
-
   pub later-there : from < to → w ≡ cased n (head_tag (split (take (length x - (from + 1)) (drop (from + 1) x)))) → w ≡ later_word n from to x
   unfolding later_word
   later-there h e = rw (lt-ltb from to h, later_word) (e ∙ ap (cased n) (lent (from + 1)))
@@ -74,12 +71,6 @@ module _ (x : List ℕ) (from to n : ℕ) (w : Tag) where
   pub later-not : to ≤ from → w ≡ [] → w ≡ later_word n from to x
   unfolding later_word
   later-not h e = rw (le-ltb from to h, later_word) e
-
--- Refused.
-pub refused-words : (n at : ℕ) (l s r : Tag) → l ≡ [] → s ≡ [] → r ≡ []
-    → ◌≡◌ {A = Report} (record { number = n; place = at; language = l; script = s; region = r; variants = 0; extensions = 0 }) (refused_report n at)
-unfolding refused_report report_of
-refused-words n at l s r e f g = rw (e, f, g)
 
 -- Accepted.
 module _ (x : List ℕ) (p : Parts) (e : fault_of x ≡ none) (q : p ≡ parts_of (split x)) where

@@ -1,17 +1,14 @@
 -- Where subtags stand, as the code finds them. Assumes nothing.
 use mathlib.Core.Path.{◌≡◌, refl, sym, ap, ◌∙◌}
-use mathlib.Core.Bool.{true, false}
 use mathlib.Core.List.{List, [], ◌∷◌, ◌++◌, map}
 use Prim.Native.Nat.{ℕ, zero, suc, ◌+◌, ◌-◌, ◌≤◌, ◌<◌}
 use native.Mathlib.Omega.{arith}
-use lib.ListN.{length, get_or, take, drop, set}
-use borrow.Author.Tests.{lt-ltb, le-ltb, eq-eqb, ne_eqb}
+use lib.ListN.{length, take, drop, set}
+use borrow.Author.Tests.{le-ltb}
 use Rattle.standard.specs.Tag.{Tag, head_tag}
-use Rattle.standard.specs.Grammar.{separator}
 use Rattle.standard.specs.Reading.{split}
 use Rattle.standard.specs.Places as standard
 use Rattle.standard.specs.Places.{span, nowhere}
-use Rattle.subtag.proofs.Walk.{at-end, at-sep, at_byte}
 use Rattle.reader.specs.declared.spans.Span.{Span}
 use Rattle.reader.specs.Spans.{span_is, part_span, spans_at, Begin, in_room, padded}
 
@@ -21,34 +18,8 @@ module _ (from to : ℕ) where
   unfolding part_span
   span-absent h = rw (le-ltb from to h, part_span)
 
-  pub span-later : from < to → (from ≡ 0 → ⊥) → span (from + 1) (to - (from + 1)) ≡ part_span from to
-  unfolding part_span
-  span-later h n = rw (lt-ltb from to h, ne_eqb from 0 n, part_span)
-
-pub span-first : (from to : ℕ) → from < to → from ≡ 0 → span 0 to ≡ part_span from to
-unfolding part_span
-span-first from to h e = rw (lt-ltb from to h, eq-eqb from 0 e, part_span)
-
--- The end of a subtag.
 abbrev front : List ℕ → Tag
 front s = head_tag (split s)
-
-pub record Ending (x : List ℕ) (at end : ℕ) : Type 0 where
-  pub within : end ≤ length x
-  pub size : end + length (front (drop end x)) ≡ at + length (front (drop at x))
-
-module _ (x : List ℕ) (at end : ℕ) (e : Ending x at end) where
-  pub ending-more : end < length x → separator (get_or x end 0) ≡ false → Ending x at (end + 1)
-  ending-more h f = let l = ap length (at_byte x end h f) in let z = e.size in record { within = omega arith; size = omega arith }
-
-  ending-done : front (drop end x) ≡ [] → end ≡ at + length (front (drop at x))
-  ending-done f = let l = ap length f in let z = e.size in omega arith
-
-  pub ending-sep : end < length x → separator (get_or x end 0) ≡ true → end ≡ at + length (front (drop at x))
-  ending-sep h f = ending-done (at-sep x end h f)
-
-  pub ending-end : length x ≤ end → end ≡ at + length (front (drop at x))
-  ending-end h = ending-done (at-end x end h)
 
 -- The array.
 pub length-room : (n : ℕ) (ss : List standard.Span) → length (in_room n ss) ≡ n

@@ -25,7 +25,7 @@ use Rattle.subtag.specs.Kinds.{size_from, language_from, kind_from, keyword_from
 use Rattle.subtag.proofs.Shapes.{language-from, kind-from, keyword-from, field-from, singleton-from, two_from}
 use Rattle.subtag.proofs.Keys.{same_key}
 use Rattle.reader.specs.declared.Parts.{Parts}
-use Rattle.reader.specs.declared.marks.Marking.TheVariants.{New, Repeat}
+use Rattle.std.specs.Prelude.{Some, None}
 use Rattle.reader.specs.declared.steps.Verdict.{Verdict}
 use Rattle.reader.specs.declared.steps.Verdict.TheVariants as verdicts
 use Rattle.reader.specs.declared.steps.Stage.{Stage}
@@ -336,7 +336,7 @@ module _ (t : Tag) (ts : List Tag) (fine : Fine t) (law : Law ts) (st : State) (
       rw (next-from t fine.plain st, e, h.held t fine.plain ∙ m, steps)
       (rw (m, first_of) (goes set (keys ++ (key_of t ∷ [])) singles (t ∷ listed) (record { marks = h.marks; all-single = h.all-single; held = held_more listed keys t h.held fine.plain })))
 
-  marked-as : (b : Bool) → eqb (bit set (place_of (first_byte t))) 1 ≡ b → marked_with set (first_byte t) ≡ elim b [ true ↦ Repeat | false ↦ New (bit_or set (2 ^ place_of (first_byte t))) ]
+  marked-as : (b : Bool) → eqb (bit set (place_of (first_byte t))) 1 ≡ b → marked_with set (first_byte t) ≡ elim b [ true ↦ None | false ↦ Some (bit_or set (2 ^ place_of (first_byte t))) ]
   unfolding marked_with
   marked-as b f = rw (f, marked_with)
 

@@ -1,85 +1,34 @@
--- A word written byte by byte, and the words of a report. Assumes nothing.
-use mathlib.Core.Path.{◌≡◌, refl, sym, ap, ap₂, ◌∙◌}
-use mathlib.Core.Bool.{true, false}
-use mathlib.Core.List.{List, [], ◌∷◌, ◌++◌, append_assoc, append-nil}
-use mathlib.Core.Logic.{⊎_elim}
-use Prim.Native.Nat.{ℕ, zero, suc, ◌+◌, ◌-◌, ◌≤◌, ◌<◌}
-use native.Mathlib.Numerals.{add-one}
+-- The words of a report. Assumes nothing.
+use mathlib.Core.Path.{◌≡◌, refl, ap₂, ◌∙◌}
+use mathlib.Core.Bool.{Bool, true, false}
+use mathlib.Core.List.{List, [], ◌∷◌, map}
+use Prim.Native.Nat.{ℕ, ◌+◌, ◌≤◌}
 use native.Mathlib.Omega.{arith}
-use lib.ListN.{length, get_or, take, drop, set, length-set}
-use lib.Seq.{take-suc-set}
-use borrow.Author.Tests.{lt-ltb, le-ltb}
+use lib.ListN.{length, take, drop}
+use lib.Seq.{sets, sets-eq, take-append_seam}
 use Rattle.standard.specs.Tag.{Tag, head_tag}
-use Rattle.standard.specs.Grammar.{separator, lower_byte}
+use Rattle.standard.specs.Grammar.{separator}
 use Rattle.standard.specs.Reading.{split}
-use Rattle.subtag.proofs.Walk.{at-end, at-sep, at_byte}
-use Rattle.standard.proofs.General.{le-or-lt}
-use Rattle.subtag.specs.Bytes.{cased, cased_byte}
-use Rattle.subtag.proofs.Cased.{cased-nil}
-use Rattle.reader.specs.Words.{word_is}
-
-cased-cons : (n b : ℕ) (t : Tag) → cased n (b ∷ t) ≡ cased_byte 0 n b ∷ cased (n - 1) t
-unfolding cased cased_byte
-cased-cons zero b t = refl
-cased-cons (suc n) b t = let z : suc n - 1 ≡ n = omega arith in rw (lt-ltb 0 (suc n) (omega arith), z)
-
--- at an index
-cased-at : (i n b : ℕ) → cased_byte 0 (n - i) b ≡ cased_byte i n b
-unfolding cased_byte
-cased-at i n b = ⊎_elim (λ h. rw (le-ltb 0 (n - i) (omega arith), le-ltb i n h)) (λ h. rw (lt-ltb 0 (n - i) (omega arith), lt-ltb i n h)) (le-or-lt n i)
+use Rattle.subtag.specs.Bytes.{normal_byte, cased}
+use Rattle.subtag.proofs.Bytes.{normalise-other}
+use Rattle.subtag.proofs.Walk.{label-sep, label-byte}
 
 -- none
 pub cased-none : (t : Tag) → cased 0 t ≡ t
 unfolding cased
 cased-none t = refl
 
-abbrev front : List ℕ → Tag
-front s = head_tag (split s)
+-- the subtag at the front, by the bytes that it was read from
+pub front-bytes : (s : List ℕ) → map normal_byte (take (length (head_tag (split s))) s) ≡ head_tag (split s)
+unfolding split head_tag
+front-bytes [] = refl
+front-bytes (b ∷ s) = go (separator b) refl (front-bytes s)
+  where
+    go : (p : Bool) → separator b ≡ p → map normal_byte (take (length (head_tag (split s))) s) ≡ head_tag (split s)
+        → map normal_byte (take (length (head_tag (split (b ∷ s)))) (b ∷ s)) ≡ head_tag (split (b ∷ s))
+    go true e h = rw (label-sep b s e)
+    go false e h = rw (label-byte b s e) (ap₂ (λ (c : ℕ) (t : Tag). c ∷ t) (normalise-other b e) h)
 
--- the bytes so far, and those to come
-pub record Wording (s : List ℕ) (n : ℕ) (bytes : List ℕ) (len : ℕ) : Type 0 where
-  pub small : length (front s) ≤ 8
-  pub within : len ≤ length s
-  pub room : length bytes ≡ 8
-  pub size : len + length (front (drop len s)) ≡ length (front s)
-  pub text : cased n (front s) ≡ take len bytes ++ cased (n - len) (front (drop len s))
-
-pub wording-start : (s : List ℕ) (n : ℕ) (bytes : List ℕ) → length (front s) ≤ 8 → length bytes ≡ 8 → Wording s n bytes 0
-wording-start s n bytes h k = record { small = h; within = omega arith; room = k; size = omega arith; text = let z : n - 0 ≡ n = omega arith in rw z }
-
-module _ (s : List ℕ) (n : ℕ) (bytes : List ℕ) (len : ℕ) (w : Wording s n bytes len) where
-  pub wording-few : len ≤ 8
-  wording-few = let z = w.size in let q = w.small in omega arith
-
-  pub wording-room : len < length s → separator (get_or s len 0) ≡ false → len < 8
-  wording-room h e = let l = ap length (at_byte s len h e) in let z = w.size in let q = w.small in omega arith
-
-  pub wording-more : (r b : ℕ) → len < length s → separator (get_or s len 0) ≡ false → b ≡ lower_byte (get_or s len 0) → r ≡ cased_byte len n b → Wording s n (set bytes len r) (len + 1)
-  wording-more r b h e f g =
-      let a = at_byte s len h e in
-      let l = ap length a in
-      let z = w.size in
-      let q = w.small in
-      let m = w.room in
-      let d : n - len - 1 ≡ n - (len + 1) = omega arith in
-      let t : take (len + 1) (set bytes len r) ≡ take len bytes ++ (r ∷ []) = rw add-one (take-suc-set bytes len r (omega arith)) in
-      let byte : cased_byte 0 (n - len) (lower_byte (get_or s len 0)) ≡ r = cased-at len n (lower_byte (get_or s len 0)) ∙ ap (cased_byte len n) (sym f) ∙ sym g in
-      record {
-        small = q;
-        within = omega arith;
-        room = length-set bytes len r ∙ m;
-        size = omega arith;
-        text = w.text ∙ ap (λ (x : Tag). take len bytes ++ x) (ap (cased (n - len)) a ∙ cased-cons (n - len) (lower_byte (get_or s len 0)) (front (drop (len + 1) s)) ∙ ap₂ (λ (x : ℕ) (y : ℕ). x ∷ cased y (front (drop (len + 1) s))) byte d)
-            ∙ sym (append_assoc (take len bytes) (r ∷ []) (cased (n - (len + 1)) (front (drop (len + 1) s))))
-            ∙ ap (λ (x : List ℕ). x ++ cased (n - (len + 1)) (front (drop (len + 1) s))) (sym t);
-      }
-
-  wording-done : front (drop len s) ≡ [] → word_is (record { bytes = bytes; len = len }) ≡ cased n (front s)
-  unfolding word_is
-  wording-done e = sym (w.text ∙ ap (λ (x : Tag). take len bytes ++ cased (n - len) x) e ∙ ap (◌++◌ (take len bytes)) (cased-nil (n - len)) ∙ append-nil (take len bytes))
-
-  pub wording-sep : len < length s → separator (get_or s len 0) ≡ true → word_is (record { bytes = bytes; len = len }) ≡ cased n (front s)
-  wording-sep h e = wording-done (at-sep s len h e)
-
-  pub wording-end : length s ≤ len → word_is (record { bytes = bytes; len = len }) ≡ cased n (front s)
-  wording-end h = wording-done (at-end s len h)
+-- what was written at the front of eight bytes
+pub written : (z t : List ℕ) (n : ℕ) → n ≡ length t → length t ≤ length z → take n (sets z 0 t) ≡ t
+written z t n e h = ap₂ take e (sets-eq t z 0 (omega arith)) ∙ take-append_seam t (drop (0 + length t) z)

@@ -1,11 +1,9 @@
 -- A set of places as the bits of a number: one place for each singleton. Assumes nothing.
-use Rattle.std.specs.Prelude.{ℕ, zero, suc, ◌-◌, ◌/◌, ◌%◌, ◌^◌, Bool, true, false, ◌||◌, List, [], ◌∷◌, eqb}
+use Rattle.std.specs.Prelude.{ℕ, zero, suc, ◌-◌, ◌/◌, ◌%◌, ◌^◌, Bool, true, false, ◌||◌, List, [], ◌∷◌, eqb, Option, Some, None}
 use Rattle.std.specs.Int.Bits.{bit_or}
 use Rattle.subtag.specs.declared.Class.{Class}
 use Rattle.subtag.specs.declared.Class.TheVariants.{Small, Capital, Digit, Separator, Other}
 use Rattle.subtag.specs.Bytes.{class_of}
-use Rattle.reader.specs.declared.marks.Marking.{Marking}
-use Rattle.reader.specs.declared.marks.Marking.TheVariants.{New, Repeat}
 
 -- the place of a byte of a class: digits first, then letters
 unfoldable pub place_as : Class → ℕ → ℕ
@@ -28,6 +26,6 @@ unfoldable pub has : List ℕ → ℕ → Bool
 has [] p = false
 has (x ∷ l) p = eqb x p || has l p
 
--- the marks after a singleton
-unfoldable pub marked_with : ℕ → ℕ → Marking
-marked_with set b = elim (eqb (bit set (place_of b)) 1) [ true ↦ Repeat | false ↦ New (bit_or set (2 ^ place_of b)) ]
+-- the marks after a singleton, unless it is marked already
+unfoldable pub marked_with : ℕ → ℕ → Option ℕ
+marked_with set b = elim (eqb (bit set (place_of b)) 1) [ true ↦ None | false ↦ Some (bit_or set (2 ^ place_of b)) ]

@@ -1,7 +1,8 @@
 -- What `read_parts` gives back, and what it is to give: for each of the answer's cases the number and place that documents 01
 -- and 02 give it.
 -- Assumes nothing.
-use Rattle.std.specs.Prelude.{true, false, List, ℕ, ◌+◌, length}
+use Rattle.std.specs.Prelude as code
+use Rattle.std.specs.Prelude.{true, false, List, ℕ, ◌+◌, length, Result, Ok, Err, Some, None}
 use Rattle.std.proofs.Math.Option.{Option, none, some}
 use Rattle.standard.specs.Tag.{Tag, same, head_tag}
 use Rattle.standard.specs.Grammar.{is_language}
@@ -10,12 +11,8 @@ use Rattle.standard.specs.Report.{private_count}
 use Rattle.reader.specs.declared.Start.{Start}
 use Rattle.reader.specs.declared.Start.TheVariants.{Language, Script, Root}
 use Rattle.reader.specs.declared.Parts.{Parts}
-use Rattle.reader.specs.declared.Reading.{Reading}
-use Rattle.reader.specs.declared.Reading.TheVariants.{Read, Refused}
 use Rattle.reader.specs.declared.Refusal.{Refusal}
 use Rattle.reader.specs.declared.Refusal.TheVariants.{Empty, TooLong, BadByte, BadSize, MisplacedFirst, MisplacedLater, MisplacedExtension, Repeated, Unfinished}
-use Rattle.reader.specs.declared.Found.{Found}
-use Rattle.reader.specs.declared.Found.TheVariants.{At, Nothing}
 use Rattle.reader.specs.Cuts.{cuts_of}
 
 -- what a first subtag is, where it can stand
@@ -55,9 +52,9 @@ fault_is (Repeated at) = record { number = 6; place = at }
 fault_is (Unfinished at) = record { number = 7; place = at }
 
 -- each case of the answer
-unfoldable pub outcome_of : Reading → Outcome
-outcome_of (Read p) = parts p
-outcome_of (Refused r) = refused (fault_is r).number (fault_is r).place
+unfoldable pub outcome_of : Result Parts Refusal → Outcome
+outcome_of (Ok p) = parts p
+outcome_of (Err r) = refused (fault_is r).number (fault_is r).place
 
 unfoldable pub outcome_as : Option Fault → Parts → Outcome
 outcome_as none p = parts p
@@ -68,6 +65,6 @@ unfoldable pub outcome : List ℕ → Outcome
 outcome x = outcome_as (fault_of x) (parts_of (split x))
 
 -- a place found, as the fault of this number
-unfoldable pub found_as : ℕ → Found → Option Fault
-found_as n (At at) = fault n at
-found_as n Nothing = none
+unfoldable pub found_as : ℕ → code.Option ℕ → Option Fault
+found_as n (Some at) = fault n at
+found_as n None = none

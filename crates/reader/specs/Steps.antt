@@ -1,7 +1,7 @@
 -- The walk in the code's terms: the transition by what the code keeps of a subtag, the singletons as marks in a number,
 -- the variants and keys as their numbers. `proofs/Stepping.antt` shows that it is the walk over the standard's subtags.
 -- Assumes nothing.
-use Rattle.std.specs.Prelude.{Bool, true, false, cond, not, ◌&&◌, ◌||◌, List, [], ◌∷◌, ◌++◌, ℕ, suc, ◌+◌, eqb, length}
+use Rattle.std.specs.Prelude.{Bool, true, false, cond, not, ◌&&◌, ◌||◌, List, [], ◌∷◌, ◌++◌, ℕ, suc, ◌+◌, eqb, length, Some, None}
 use Rattle.std.specs.Int.Count.{ones}
 use Rattle.standard.specs.Tag.{Tag}
 use Rattle.standard.specs.Grammar as grammar
@@ -18,7 +18,6 @@ use Rattle.reader.specs.declared.steps.Stage.{Stage}
 use Rattle.reader.specs.declared.steps.Stage.TheVariants.{Language, Script, Region, Variant, Root}
 use Rattle.reader.specs.declared.steps.State.{State}
 use Rattle.reader.specs.declared.steps.State.TheVariants.{First, Main, Unicode, Keywords, Transform, Part, Key, Field, Other, Others, Private, Privates, Misplaced, Unfinished}
-use Rattle.reader.specs.declared.marks.Marking.TheVariants.{New, Repeat}
 use Rattle.reader.specs.Marks.{marked_with}
 use Rattle.reader.specs.Parts.{Outcome, parts, refused}
 use Rattle.reader.specs.Walk.{stage_of, placed, after_singleton, pending, verdict_of, cut, counted, unread}
@@ -132,7 +131,7 @@ steps st p set keys back at (t ∷ ts) =
     elim (verdict_of n) [
       | verdicts.Misplaced ↦ refused (misplaced_from set at) at
       | verdicts.Unfinished ↦ refused 7 back
-      | verdicts.Singleton ↦ elim (marked_with set (first_byte t)) [ New m ↦ steps n q m [] at (at + suc (length t)) ts | Repeat ↦ refused 6 at ]
+      | verdicts.Singleton ↦ elim (marked_with set (first_byte t)) [ Some m ↦ steps n q m [] at (at + suc (length t)) ts | None ↦ refused 6 at ]
       | verdicts.Listed ↦ elim (among (key_of t) keys) [ true ↦ refused 6 at | false ↦ steps n q set (keys ++ (key_of t ∷ [])) at (at + suc (length t)) ts ]
       | verdicts.Plain ↦ steps n q set keys at (at + suc (length t)) ts
     ]

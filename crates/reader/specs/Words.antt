@@ -1,32 +1,17 @@
 -- What `read` gives back, as the standard's report: a word is its first `len` bytes. Assumes nothing.
-use Rattle.std.specs.Prelude.{true, false, List, [], ℕ, ◌+◌, ◌≤◌, ◌<◌, ltb, length, take, drop}
+use Rattle.std.specs.Prelude.{true, false, List, [], ℕ, ◌+◌, ◌≤◌, ◌<◌, ltb, length, take, drop, Result, Ok, Err}
 use Rattle.standard.specs.Tag.{Tag, head_tag}
 use Rattle.standard.specs.Reading.{split, bad}
 use Rattle.standard.specs.Report as standard
 use Rattle.subtag.specs.Bytes.{cased}
 use Rattle.reader.specs.declared.Parts.{Parts}
-use Rattle.reader.specs.declared.report.Word.{Word}
+use Rattle.reader.specs.declared.Refusal.{Refusal}
+use Rattle.reader.specs.Parts.{fault_is}
+use Rattle.reader.specs.declared.word.Word.{Word}
 use Rattle.reader.specs.declared.report.Report.{Report}
 
 unfoldable pub word_is : Word → Tag
 word_is w = take w.len w.bytes
-
-unfoldable pub report_is : Report → standard.Report
-report_is r = record {
-  number = r.number;
-  place = r.place;
-  language = word_is r.language;
-  script = word_is r.script;
-  region = word_is r.region;
-  variants = r.variants;
-  extensions = r.extensions;
-}
-
--- each word ends within its bytes
-pub record Within (r : Report) : Type 0 where
-  pub language : r.language.len ≤ 8
-  pub script : r.script.len ≤ 8
-  pub region : r.region.len ≤ 8
 
 -- the subtag behind a separator at `from`, where a part goes from there to `to`
 unfoldable pub later_word : ℕ → ℕ → ℕ → List ℕ → Tag
@@ -45,3 +30,20 @@ refused_report n p = standard.report_of (bad n p)
 unfoldable pub parts_report : Parts → Tag → Tag → Tag → standard.Report
 parts_report p l s r =
     record { number = 0; place = 0; language = l; script = s; region = r; variants = p.variant_count; extensions = p.extension_count }
+
+-- the report of an accepted identifier, number and place 0
+unfoldable pub accepted_is : Report → standard.Report
+accepted_is r = record {
+  number = 0;
+  place = 0;
+  language = word_is r.language;
+  script = word_is r.script;
+  region = word_is r.region;
+  variants = r.variants;
+  extensions = r.extensions;
+}
+
+-- what `read` gives back
+unfoldable pub report_is : Result Report Refusal → standard.Report
+report_is (Ok r) = accepted_is r
+report_is (Err why) = refused_report (fault_is why).number (fault_is why).place

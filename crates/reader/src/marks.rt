@@ -6,16 +6,15 @@ ghost use Rattle.reader.specs.Marks.{place_of, bit, marked_with};
 use subtag::Class;
 
 // The place of a letter or digit: 0 to 9, then 10 to 35; 36 for any other byte.
+#[tactic(auto, unfolding(crate::specs::Marks::place_of, crate::specs::Marks::place_as))]
 fn place(b: u8) -> u32
     ensures { result ≡ place_of b }
 {
-    let k = subtag::class_of(b);
-    match k {
-        Class::Digit => b as u32 - 48,
-        Class::Small => b as u32 - 87,
-        Class::Capital => b as u32 - 55,
-        Class::Separator => 36,
-        Class::Other => 36,
+    match subtag::class_of(b) {
+        Class::Digit => u32::from(b) - 48,
+        Class::Small => u32::from(b) - 87,
+        Class::Capital => u32::from(b) - 55,
+        Class::Separator | Class::Other => 36,
     }
 }
 
@@ -36,18 +35,14 @@ fn mark(set: u64, p: u32) -> u64
 }
 
 // The marks after a singleton, unless it is marked already.
-#[derive(Clone, Copy)]
-pub enum Marking {
-    New(u64),
-    Repeat,
-}
-
-pub(crate) fn add(set: u64, singleton: u8) -> Marking
+#[tactic(auto, unfolding(crate::specs::Marks::marked_with))]
+pub(crate) fn add(set: u64, singleton: u8) -> Option<u64>
     ensures { result ≡ marked_with set singleton }
 {
     let p = place(singleton);
     if marked(set, p) {
-        return Marking::Repeat;
+        None
+    } else {
+        Some(mark(set, p))
     }
-    Marking::New(mark(set, p))
 }

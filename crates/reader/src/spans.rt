@@ -28,6 +28,7 @@ pub struct Places {
 }
 
 // A place that fits.
+#[tactic(auto, unfolding(crate::specs::Spans::span_is))]
 fn new_span(start: usize, len: usize) -> Span
     requires { (start < 256) × (len < 256) }
     ensures { span_is result ≡ spanAt start len }
@@ -39,6 +40,7 @@ fn new_span(start: usize, len: usize) -> Span
 }
 
 // The place of what was never written.
+#[tactic(auto, unfolding(crate::specs::Spans::span_is))]
 fn nowhere() -> Span
     ensures { span_is result ≡ unwrittenSpan }
 {
@@ -46,25 +48,27 @@ fn nowhere() -> Span
 }
 
 // The places of no variant.
+#[tactic(auto, unfolding(crate::specs::Spans::span_is, crate::specs::Spans::in_room))]
 fn no_variants() -> [Span; 50]
     ensures { map span_is result ≡ padded [] }
 {
-    [Span { start: 0, len: 0 }; 50]
+    [nowhere(); 50]
 }
 
 // The subtag of a part that goes from `from` to `to`.
+#[tactic(auto, unfolding(crate::specs::Spans::part_span))]
 fn part_span(from: usize, to: usize) -> Span
     requires { to ≤ 255 }
     ensures { span_is result ≡ part_span from to }
 {
     if to <= from {
-        return nowhere();
+        nowhere()
+    } else if from == 0 {
+        new_span(0, to)
+    } else {
+        let start = from + 1;
+        new_span(start, to - start)
     }
-    if from == 0 {
-        return new_span(0, to);
-    }
-    let start = from + 1;
-    new_span(start, to - start)
 }
 
 // Where the subtag at `at` ends.
@@ -72,14 +76,7 @@ fn subtag_end(id: &[u8], at: usize) -> usize
     requires { at ≤ length id.now }
     ensures { let id = id.now in (result ≡ at + length (head_tag (split (drop at id)))) × (result ≤ length id) }
 {
-    let mut end = at;
-    while end < id.len() {
-        if subtag::is_separator(id[end]) {
-            return end;
-        }
-        end += 1;
-    }
-    end
+    at + subtag::scan(&id[at..]).len
 }
 
 // So many variants, behind the separator at `from`.
@@ -89,12 +86,10 @@ fn variant_spans(id: &[u8], from: usize, count: usize) -> [Span; 50]
 {
     let mut spans = no_variants();
     let mut end = from;
-    let mut n: usize = 0;
-    while n < count {
+    for n in 0..count {
         let at = end + 1;
         end = subtag_end(id, at);
         spans[n] = new_span(at, end - at);
-        n += 1;
     }
     spans
 }

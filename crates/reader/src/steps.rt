@@ -73,68 +73,45 @@ fn stage_by(k: Kind) -> Stage
 fn accepts(s: Stage, k: Kind) -> bool
     ensures { result ≡ acceptsAt s k }
 {
-    match s {
-        Stage::Language => match k {
-            Kind::Script => true,
-            Kind::Region => true,
-            Kind::Variant => true,
-            Kind::Neither => false,
-        },
-        Stage::Script => match k {
-            Kind::Script => false,
-            Kind::Region => true,
-            Kind::Variant => true,
-            Kind::Neither => false,
-        },
-        Stage::Region => match k {
-            // four letters after a region are no variant either
-            Kind::Script => { false }
-            Kind::Region => false,
-            Kind::Variant => true,
-            Kind::Neither => false,
-        },
-        Stage::Variant => match k {
-            Kind::Script => false,
-            Kind::Region => false,
-            Kind::Variant => true,
-            Kind::Neither => false,
-        },
-        Stage::Root => false,
-    }
+    matches!(
+        (s, k),
+        (Stage::Language, Kind::Script | Kind::Region | Kind::Variant)
+            | (Stage::Script, Kind::Region | Kind::Variant)
+            | (Stage::Region | Stage::Variant, Kind::Variant)
+    )
 }
 
 // The first subtag: a language, `root`, or a script.
+#[tactic(auto, unfolding(crate::specs::Steps::first_from, crate::specs::Steps::script_first))]
 fn first_state(t: Subtag) -> State
     ensures { result ≡ first_from t }
 {
     if subtag::is_language(t) {
-        return State::Main(Stage::Language);
-    }
-    // the number of `root`
-    if t.key == ROOT {
-        return State::Main(Stage::Root);
-    }
-    let k = subtag::kind_of(t);
-    match k {
-        Kind::Script => State::Main(Stage::Script),
-        Kind::Region => State::Misplaced,
-        Kind::Variant => State::Misplaced,
-        Kind::Neither => State::Misplaced,
+        State::Main(Stage::Language)
+    } else if t.key == ROOT {
+        State::Main(Stage::Root)
+    } else if subtag::kind_of(t) == Kind::Script {
+        State::Main(Stage::Script)
+    } else {
+        State::Misplaced
     }
 }
 
 // A later subtag of the identifier's language part.
+#[tactic(auto, unfolding(crate::specs::Steps::stage_from))]
 fn main_state(s: Stage, t: Subtag) -> State
     ensures { result ≡ stage_from State.Main s t }
 {
     let k = subtag::kind_of(t);
     if accepts(s, k) {
-        return State::Main(stage_by(k));
+        State::Main(stage_by(k))
+    } else {
+        State::Misplaced
     }
-    State::Misplaced
 }
 
 // A later subtag of the language part of `t`, or the key of its first field.
+#[tactic(auto, unfolding(crate::specs::Steps::part_from, crate::specs::Steps::stage_from))]
 fn part_state(s: Stage, t: Subtag) -> State
     ensures { result ≡ part_from s t }
 {
@@ -143,86 +120,83 @@ fn part_state(s: Stage, t: Subtag) -> State
     }
     let k = subtag::kind_of(t);
     if accepts(s, k) {
-        return State::Part(stage_by(k));
+        State::Part(stage_by(k))
+    } else {
+        State::Misplaced
     }
-    State::Misplaced
 }
 
 // In `u` two bytes are the key of a keyword.
+#[tactic(auto, unfolding(crate::specs::Steps::keywords_from))]
 fn keyword_state(t: Subtag) -> State
     ensures { result ≡ keywords_from t }
 {
-    if t.len != 2 {
-        return State::Keywords;
+    if t.len == 2 && !subtag::is_keyword_key(t) {
+        State::Misplaced
+    } else {
+        State::Keywords
     }
-    if subtag::is_keyword_key(t) {
-        return State::Keywords;
-    }
-    State::Misplaced
 }
 
 // Straight after `t`: a field, or a language.
+#[tactic(auto, unfolding(crate::specs::Steps::transform_from))]
 fn transform_state(t: Subtag) -> State
     ensures { result ≡ transform_from t }
 {
     if subtag::is_field_key(t) {
-        return State::Key;
+        State::Key
+    } else if subtag::is_language(t) {
+        State::Part(Stage::Language)
+    } else {
+        State::Misplaced
     }
-    if subtag::is_language(t) {
-        return State::Part(Stage::Language);
-    }
-    State::Misplaced
 }
 
 // In a field two bytes are the next key, which leads to `key`.
+#[tactic(auto, unfolding(crate::specs::Steps::value_from))]
 fn value_state(key: State, t: Subtag) -> State
     ensures { result ≡ value_from key t }
 {
     if subtag::is_field_key(t) {
-        return key;
+        key
+    } else if t.len == 2 {
+        State::Misplaced
+    } else {
+        State::Field
     }
-    if t.len == 2 {
-        return State::Misplaced;
-    }
-    State::Field
 }
 
 // A subtag that is no singleton.
+#[tactic(auto, unfolding(crate::specs::Steps::other_from))]
 fn other_state(st: State, t: Subtag) -> State
     ensures { result ≡ other_from st t }
 {
     match st {
         State::First => first_state(t),
         State::Main(s) => main_state(s, t),
-        State::Unicode => keyword_state(t),
-        State::Keywords => keyword_state(t),
+        State::Unicode | State::Keywords => keyword_state(t),
         State::Transform => transform_state(t),
         State::Part(s) => part_state(s, t),
         State::Key => value_state(State::Unfinished, t),
         State::Field => value_state(State::Key, t),
-        State::Other => State::Others,
-        State::Others => State::Others,
-        State::Private => State::Privates,
-        State::Privates => State::Privates,
+        State::Other | State::Others => State::Others,
+        State::Private | State::Privates => State::Privates,
         State::Misplaced => State::Misplaced,
         State::Unfinished => State::Unfinished,
     }
 }
 
 // What a singleton begins.
+#[tactic(auto, unfolding(crate::specs::Steps::opens_from))]
 fn opens(first: u8) -> State
     ensures { result ≡ opens_from first }
 {
-    if first == b'u' {
-        return State::Unicode;
+    match first {
+        b'u' => State::Unicode,
+        b't' => State::Transform,
+        b'x' => State::Private,
+        _ => State::Other,
     }
-    if first == b't' {
-        return State::Transform;
-    }
-    if first == b'x' {
-        return State::Private;
-    }
-    State::Other
 }
 
 // A singleton, which begins the state `opened` unless something before it is unfinished.
@@ -230,64 +204,42 @@ fn singleton_state(st: State, opened: State) -> State
     ensures { result ≡ after_singleton st opened }
 {
     match st {
-        State::First => State::Misplaced,
-        State::Main(_) => opened,
-        State::Unicode => State::Unfinished,
-        State::Keywords => opened,
-        State::Transform => State::Unfinished,
-        State::Part(_) => opened,
-        State::Key => State::Unfinished,
-        State::Field => opened,
-        State::Other => State::Unfinished,
-        State::Others => opened,
-        State::Private => State::Privates,
-        State::Privates => State::Privates,
-        State::Misplaced => State::Misplaced,
-        State::Unfinished => State::Unfinished,
+        State::Main(_) | State::Keywords | State::Part(_) | State::Field | State::Others => opened,
+        State::Unicode | State::Transform | State::Key | State::Other | State::Unfinished =>
+            State::Unfinished,
+        State::Private | State::Privates => State::Privates,
+        State::First | State::Misplaced => State::Misplaced,
     }
 }
 
 // The transition.
+#[tactic(auto, unfolding(crate::specs::Steps::next_from))]
 pub(crate) fn step(st: State, t: Subtag) -> State
     ensures { result ≡ next_from st t }
 {
     if t.len == 1 {
-        return singleton_state(st, opens(t.first));
+        singleton_state(st, opens(t.first))
+    } else {
+        other_state(st, t)
     }
-    other_state(st, t)
 }
 
 // Has something begun that needs a subtag more?
 pub(crate) fn pending(st: State) -> bool
     ensures { result ≡ pendingOf st }
 {
-    match st {
-        State::First => false,
-        State::Main(_) => false,
-        State::Unicode => true,
-        State::Keywords => false,
-        State::Transform => true,
-        State::Part(_) => false,
-        State::Key => true,
-        State::Field => false,
-        State::Other => true,
-        State::Others => false,
-        State::Private => true,
-        State::Privates => false,
-        State::Misplaced => false,
-        State::Unfinished => false,
-    }
+    matches!(
+        st,
+        State::Unicode | State::Transform | State::Key | State::Other | State::Private
+    )
 }
 
 fn stage_verdict(s: Stage) -> Verdict
     ensures { result ≡ stage_verdict s }
 {
     match s {
-        Stage::Language => Verdict::Plain,
-        Stage::Script => Verdict::Plain,
-        Stage::Region => Verdict::Plain,
         Stage::Variant => Verdict::Listed,
-        Stage::Root => Verdict::Plain,
+        Stage::Language | Stage::Script | Stage::Region | Stage::Root => Verdict::Plain,
     }
 }
 
@@ -296,18 +248,11 @@ pub(crate) fn verdict_of(st: State) -> Verdict
     ensures { result ≡ verdict_of st }
 {
     match st {
-        State::First => Verdict::Plain,
-        State::Main(s) => stage_verdict(s),
-        State::Unicode => Verdict::Singleton,
-        State::Keywords => Verdict::Plain,
-        State::Transform => Verdict::Singleton,
-        State::Part(s) => stage_verdict(s),
+        State::Main(s) | State::Part(s) => stage_verdict(s),
+        State::Unicode | State::Transform | State::Other | State::Private => Verdict::Singleton,
         State::Key => Verdict::Listed,
-        State::Field => Verdict::Plain,
-        State::Other => Verdict::Singleton,
-        State::Others => Verdict::Plain,
-        State::Private => Verdict::Singleton,
-        State::Privates => Verdict::Plain,
+        State::First | State::Keywords | State::Field | State::Others | State::Privates =>
+            Verdict::Plain,
         State::Misplaced => Verdict::Misplaced,
         State::Unfinished => Verdict::Unfinished,
     }

@@ -6,7 +6,6 @@
 
 ghost use Rattle.std.specs.Prelude.{◌≡◌, false, [], ◌≤◌, length};
 ghost use Rattle.standard.specs.Table.{check, to_maximise};
-ghost use Rattle.table.specs.Hints.{Hinted};
 ghost use Rattle.table.specs.Lines.{lines};
 ghost use Rattle.operations.specs.Both.{TestedBoth};
 ghost use Rattle.refused_rows.specs.Numbered.{rows_from, number_after};
@@ -18,13 +17,14 @@ ghost use Rattle.refused.specs.Header.{header};
 ghost use Rattle.refused.specs.Lists.{Lists};
 
 use operations::complete::form_buffer;
+use operations::tables::{TestedTables, tested};
 use program_io::output::Output;
 use program_io::warning::{say_encoding, say_tables};
 use program_io::{Run, Status, Streams, end, finish, input, load_table, output};
 use std::io::{Stderr, Stdout};
 use std::process::ExitCode;
-use table::hints::{fill_hints, many};
-use table_check::{Verdict, check_likely};
+use table::hints::{fill_hints, indexed, many};
+use table_check::check_likely;
 
 // The output as it was printed, and the number of the next line.
 #[derive(Clone, Copy)]
@@ -40,34 +40,21 @@ fn print_rows(
     from: Output,
     first: usize,
     piece: &[u8],
-    aliases: &[u8],
-    alias_hints: &[u16],
-    likely: &[u8],
-    likely_hints: &[u16],
+    tables: TestedTables,
     form: &mut [u8],
     out: &mut [u8],
 ) -> Printed
-    requires { let aliases = aliases.now in let likely = likely.now in
-        TestedBoth aliases likely × Hinted aliases alias_hints.now × Hinted likely likely_hints.now × (length form.old ≡ 256)
-        × (2400 ≤ length out.old) × (from.failed ≡ false) }
-    ensures { let ls = lines piece.now in
-        PrintsLines (rows_from (line_row aliases.now likely.now) first) ls from result.output
+    requires { (length form.old ≡ 256) × (2400 ≤ length out.old) × (from.failed ≡ false) }
+    ensures { let ls = lines piece.now in let tables = tables.entry in
+        PrintsLines (rows_from (line_row tables.aliases.rows.now tables.likely.rows.now) first) ls from result.output
         × (result.output.failed ≡ false → result.next ≡ number_after first ls) }
 {
     let mut o = from;
     let mut next = first;
     let mut at = 0;
+    // a step is as long as the lines whose rows had room
     while at < piece.len() {
-        let k = refused_rows::rows_hinted(
-            next,
-            &piece[at..],
-            aliases,
-            alias_hints,
-            likely,
-            likely_hints,
-            form,
-            out,
-        );
+        let k = refused_rows::rows_hinted(next, &piece[at..], tables, form, out);
         let len = k.len;
         o = output::print(stdout, o, &out[..len]);
         next = k.next;
@@ -83,23 +70,19 @@ fn print_rows(
 fn answer_input(
     streams: Streams,
     from: Output,
-    aliases: &[u8],
-    alias_hints: &[u16],
-    likely: &[u8],
-    likely_hints: &[u16],
+    tables: TestedTables,
     form: &mut [u8],
     block: &mut [u8],
     piece: &mut [u8],
     out: &mut [u8],
 ) -> Run
-    requires { let aliases = aliases.now in let likely = likely.now in
-        TestedBoth aliases likely × Hinted aliases alias_hints.now × Hinted likely likely_hints.now × (length form.old ≡ 256)
-        × Room (length block.old) (length piece.old) × (2400 ≤ length out.old) × Headed header from }
-    ensures { Replies (Lists aliases.now likely.now) result }
+    requires { (length form.old ≡ 256) × Room (length block.old) (length piece.old) × (2400 ≤ length out.old) × Headed header from }
+    ensures { Replies (Lists tables.entry.aliases.rows.now tables.entry.likely.rows.now) result }
 {
     let mut input = input::begin();
     let mut output = from;
     let mut next = 1;
+    // until the input ends, or reading or printing fails
     loop {
         input = input::next(streams.stdin, input, block, piece);
         if input::has_failed(input) {
@@ -116,10 +99,7 @@ fn answer_input(
             output,
             next,
             &piece[..whole],
-            aliases,
-            alias_hints,
-            likely,
-            likely_hints,
+            tables,
             form,
             out,
         );
@@ -166,12 +146,13 @@ fn answer(streams: Streams, from: Output, aliases: &[u8], likely: &[u8]) -> Run
     fill_hints(aliases, &mut a);
     let mut l = many();
     fill_hints(likely, &mut l);
+    let tables = tested(indexed(aliases, &a), indexed(likely, &l));
     let mut form = form_buffer();
     let mut block = input::block_buffer();
     let mut piece = input::piece_buffer();
     let mut out = out_buffer();
     answer_input(
-        streams, from, aliases, &a, likely, &l, &mut form, &mut block, &mut piece, &mut out,
+        streams, from, tables, &mut form, &mut block, &mut piece, &mut out,
     )
 }
 
@@ -192,17 +173,25 @@ fn run(streams: Streams, aliases: &[u8], likely: &[u8]) -> Run
             output: o,
         };
     }
-    let v = check_likely(aliases, likely);
-    if let Verdict::Bad(number, place, table) = v {
-        let output = program_io::print_table(streams.stdout, o, number, place, table);
-        say_tables(streams.stderr, b"refused", number, output);
-        return Run {
-            number,
-            input: input::begin(),
-            output,
-        };
+    match check_likely(aliases, likely) {
+        Ok(()) => answer(streams, o, aliases, likely),
+        Err(fault) => {
+            let number = fault.number();
+            let output = program_io::print_table(
+                streams.stdout,
+                o,
+                number,
+                fault.place,
+                fault.table_number(),
+            );
+            say_tables(streams.stderr, b"refused", number, output);
+            Run {
+                number,
+                input: input::begin(),
+                output,
+            }
+        }
     }
-    answer(streams, o, aliases, likely)
 }
 
 fn main(rt: HostRuntime) -> ExitCode {
@@ -211,18 +200,15 @@ fn main(rt: HostRuntime) -> ExitCode {
         stdout: rt.stdout(),
         stderr: rt.stderr(),
     };
-    let mut a = program_io::buffer();
-    let mut l = program_io::buffer();
-    let x = load_table(&rt, streams.stderr, b"refused", "aliases.tsv", &mut a);
-    if !x.read {
+    let stderr = streams.stderr;
+    let mut aliases = program_io::buffer();
+    let mut likely = program_io::buffer();
+    let Some(aliases_len) = load_table(&rt, stderr, b"refused", "aliases.tsv", &mut aliases) else {
         return finish(&rt, Status::Failed);
-    }
-    let y = load_table(&rt, streams.stderr, b"refused", "likely.tsv", &mut l);
-    if !y.read {
+    };
+    let Some(likely_len) = load_table(&rt, stderr, b"refused", "likely.tsv", &mut likely) else {
         return finish(&rt, Status::Failed);
-    }
-    let a_len = x.len;
-    let l_len = y.len;
-    let r = run(streams, &a[..a_len], &l[..l_len]);
-    end(&rt, streams.stderr, b"refused", r)
+    };
+    let r = run(streams, &aliases[..aliases_len], &likely[..likely_len]);
+    end(&rt, stderr, b"refused", r)
 }

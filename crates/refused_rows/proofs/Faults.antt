@@ -15,12 +15,19 @@ use Rattle.standard.proofs.Whole.{narrow-likely}
 use Rattle.standard.proofs.Long.{read_short}
 use Rattle.byte_string.specs.Strings.{end_of}
 use Rattle.byte_string.proofs.Stores.{all_from}
-use Rattle.operations.specs.Answer.{answer_of}
+use Rattle.std.specs.Prelude.{⊤, Result, Ok, Err}
+use Rattle.std.specs.Prelude.{Result as Checked}
+use Rattle.std.specs.Result.{IsErrAnd}
+use Rattle.refused_rows.specs.declared.fault.LineFault.{LineFault as LineWrong}
+use Rattle.refused_rows.specs.declared.fault.LineFault.TheVariants.{OfMember}
+use Rattle.refused_rows.specs.declared.member.MemberFault.{MemberFault as MemberWrong}
+use Rattle.refused_rows.specs.Faults.{wrong_is, fault_is}
+use Rattle.operations.specs.Answer.{answer_of, answer_by, given_is}
 use Rattle.operations.specs.Both.{operation_of}
-use Rattle.operations.specs.Completed.{given_answered, answer_by}
 use Rattle.operations.specs.declared.delivery.Answer.{Answer as Answered}
-use Rattle.operations.specs.declared.complete.Answered.{Answered as Outcome}
-use Rattle.operations.proofs.CompleteChecked.{answer-given, minimised-proper}
+use Rattle.operations.specs.declared.delivery.Done.{Done}
+use Rattle.operations.specs.declared.delivery.Refusal.{Refusal}
+use Rattle.operations.proofs.CompleteChecked.{minimised-proper}
 use Rattle.bill_rules.specs.Bill.{before_tab, after_tab}
 use Rattle.bill_rules.specs.Refusals.{MemberFault, no_tab, LineFault, of_member, of_identifier, member_fault, made_fault, member_first, fault_at, line_fault}
 use Rattle.bill_lines.proofs.Shapes.{tab-before, tab-after, tab-none}
@@ -75,11 +82,11 @@ module _ (A L x : Bytes) (pass : check to_maximise A L [] ≡ none) (start : ℕ
         near = omega (arith, d, place);
       }
 
-  pub told : (r : Outcome) (a : Answered) (form form₀ : Bytes) → length form₀ ≡ 256 → a ≡ answer_by r
-      → given_answered r form ≡ given (make (tables_of A L []) (operation_of true) x) form₀ → Told start (make (tables_of A L []) minimise x) a
-  unfolding operation_of
+  pub told : (r : Result Done Refusal) (a : Answered) (form form₀ : Bytes) → length form₀ ≡ 256 → a ≡ answer_by r
+      → given_is r form ≡ given (make (tables_of A L []) (operation_of true) x) form₀ → Told start (make (tables_of A L []) minimise x) a
+  unfolding operation_of given_is
   told r a form form₀ n e g =
-      told-as a form form₀ (make (tables_of A L []) minimise x) refl n (ap (λ (q : Answered). answer_of q form) e ∙ answer-given r form ∙ g) (minimised-proper A L x pass) (made-near (tables_of A L []) x)
+      told-as a form form₀ (make (tables_of A L []) minimise x) refl n (ap (λ (q : Answered). answer_of q form) e ∙ g) (minimised-proper A L x pass) (made-near (tables_of A L []) x)
 
 -- a line without a tab
 pub no-tab : (T : Tables) (l : Bytes) → length l ≤ end_of 9 l 0 → some (of_member no_tab) ≡ line_fault T l
@@ -105,3 +112,9 @@ module _ (T : Tables) (l : Bytes) (t : ℕ) (e : t ≡ end_of 9 l 0) (h : t < le
   identifier-only r g q =
       q ∙ ap (λ (y : Bytes). made_fault (t + 1) (make T minimise y)) (all_from (t + 1) l)
       ∙ sym (tabbed ∙ ap (λ (o : Option MemberFault). member_first o (made_fault (t + 1) (make T minimise (drop (t + 1) l)))) (sym g))
+
+-- a member's fault that is handed on
+pub handed : (r : Checked ⊤ LineWrong) (w : MemberWrong) → IsErrAnd r (λ (f : LineWrong). f ≡ OfMember w) → {o : Option LineFault} → some (of_member (wrong_is w)) ≡ o → fault_is r ≡ o
+unfolding fault_is
+handed (Ok u) w e f = absurd e
+handed (Err x) w e f = ap (λ (y : LineWrong). fault_is (Err y)) e ∙ f

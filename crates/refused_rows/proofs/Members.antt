@@ -1,26 +1,21 @@
 -- Laws of a member and what is wrong with it. Assumes nothing.
-use Rattle.std.proofs.Common.{◌≡◌, ℕ, ◌+◌, ◌<◌, ◌≤◌, true, false, cond, eqb, [], ◌∷◌, length, get_or, drop, sym, refl, ◌∙◌, add-one, arith, drop_of_length-le, drop-cons}
-use mathlib.Core.Option.{Option, none, some}
+use Rattle.std.proofs.Common.{◌≡◌, ℕ, ◌<◌, ◌≤◌, true, false, cond, eqb, [], ◌∷◌, length, get_or, sym, refl, ◌∙◌, true≢false, ap, arith}
+use mathlib.Core.Option.{none, some}
 use Rattle.standard.specs.Grammar.{digit}
 use Rattle.standard.specs.Delivery.{Bytes}
 use Rattle.bill_rules.specs.Bill.{member_of}
 use Rattle.bill_rules.specs.Refusals.{no_member, no_number, zero_first, out_of_range, digits, leading_zero, range_fault, member_fault}
-use Rattle.bill_lines.specs.Shapes.{or_zero}
-use Rattle.bill_lines.proofs.Usages.{member-range}
+use Rattle.std.specs.Prelude.{Option as Perhaps, Some, None}
+use Rattle.std.specs.Option.{is_some}
+use Rattle.std.specs.List.{list_all}
+use Rattle.standard.proofs.General.{bool_cases}
+use Rattle.bill_lines.specs.Shapes.{member_is as number_is}
 
--- one byte more of digits
-module _ (x : Bytes) (i : ℕ) (h : i < length x) where
-  pub digits_more : digit (get_or x i 0) ≡ true → digits (drop i x) ≡ digits (drop (i + 1) x)
-  unfolding digits
-  digits_more e = rw (add-one, drop-cons x i 0 h, e)
-
-  pub digits-off : digit (get_or x i 0) ≡ false → digits (drop i x) ≡ false
-  unfolding digits
-  digits-off e = rw (drop-cons x i 0 h, e)
-
-pub digits-end : (x : Bytes) (i : ℕ) → length x ≤ i → digits (drop i x) ≡ true
+-- digits, as std tests them
+pub digits-all : (x : Bytes) → list_all digit x ≡ digits x
 unfolding digits
-digits-end x i h = rw (drop_of_length-le x {i = i} h)
+digits-all [] = refl
+digits-all (d ∷ x) = bool_cases (digit d) (λ e. rw e (digits-all x)) (λ e. rw e)
 
 -- a leading zero
 pub zero-short : (x : Bytes) → length x < 2 → leading_zero x ≡ false
@@ -35,20 +30,9 @@ zero-long [] h = absurd (omega arith)
 zero-long (d ∷ []) h = absurd (omega arith)
 zero-long (d ∷ e ∷ x) h = refl
 
--- members of one digit, of two, and of another number of bytes
-pub one_byte : (x : Bytes) → length x ≡ 1 → or_zero (member_of (get_or x 0 0 ∷ [])) ≡ or_zero (member_of x)
-one_byte [] h = absurd (omega arith)
-one_byte (d ∷ []) h = refl
-one_byte (d ∷ e ∷ x) h = absurd (omega arith)
-
-pub two_bytes : (x : Bytes) → length x ≡ 2 → or_zero (member_of (get_or x 0 0 ∷ get_or x 1 0 ∷ [])) ≡ or_zero (member_of x)
-two_bytes [] h = absurd (omega arith)
-two_bytes (d ∷ []) h = absurd (omega arith)
-two_bytes (d ∷ e ∷ []) h = refl
-two_bytes (d ∷ e ∷ f ∷ x) h = absurd (omega arith)
-
-pub other-bytes : (x : Bytes) → (length x ≡ 1 → ⊥) → (length x ≡ 2 → ⊥) → 0 ≡ or_zero (member_of x)
-unfolding or_zero member_of
+-- no member is named by another number of bytes
+pub other-bytes : (x : Bytes) → (length x ≡ 1 → ⊥) → (length x ≡ 2 → ⊥) → none ≡ member_of x
+unfolding member_of
 other-bytes [] f g = refl
 other-bytes (d ∷ []) f g = absurd (f refl)
 other-bytes (d ∷ e ∷ []) f g = absurd (g refl)
@@ -79,18 +63,15 @@ module _ (x : Bytes) (h : length x ≡ 0 → ⊥) where
     ranged : member_fault x ≡ range_fault (member_of x)
     ranged = some_bytes ∙ rw (e, f)
 
-    pub out_of_range_lem : or_zero (member_of x) ≡ 0 → some out_of_range ≡ member_fault x
-    unfolding or_zero range_fault
-    out_of_range_lem z = go (member_of x) refl z ∙ sym ranged
-      where
-        go : (o : Option ℕ) → member_of x ≡ o → or_zero o ≡ 0 → some out_of_range ≡ range_fault o
-        go none e z = refl
-        go (some m) e z = absurd (let r = member-range x m e in omega (arith, r.0, z))
+    pub out_of_range_lem : none ≡ member_of x → some out_of_range ≡ member_fault x
+    unfolding range_fault
+    out_of_range_lem z = ap range_fault z ∙ sym ranged
 
-    pub in-range : (or_zero (member_of x) ≡ 0 → ⊥) → none ≡ member_fault x
-    unfolding or_zero range_fault
-    in-range z = go (member_of x) z ∙ sym ranged
-      where
-        go : (o : Option ℕ) → (or_zero o ≡ 0 → ⊥) → none ≡ range_fault o
-        go none z = absurd (z refl)
-        go (some m) z = refl
+    pub in-range : (o : Perhaps ℕ) → number_is o ≡ member_of x → is_some o ≡ true → none ≡ member_fault x
+    unfolding range_fault
+    in-range None e z = absurd (true≢false (sym z))
+    in-range (Some m) e z = ap range_fault e ∙ sym ranged
+
+pub none-named : (x : Bytes) (o : Perhaps ℕ) → number_is o ≡ member_of x → is_some o ≡ false → none ≡ member_of x
+none-named x None e z = e
+none-named x (Some m) e z = absurd (true≢false z)

@@ -1,6 +1,7 @@
 -- Laws of the row of a refused line. Assumes nothing.
-use Rattle.std.proofs.Common.{◌≡◌, ℕ, ◌+◌, ◌-◌, ◌*◌, ◌≤◌, ◌⊎◌, ◌++◌, length, take, drop, sym, refl, ap, ◌∙◌, ⊎_elim, arith, drop_of_length-le, take_all}
+use Rattle.std.proofs.Common.{◌≡◌, ℕ, ◌+◌, ◌-◌, ◌*◌, ◌≤◌, ◌++◌, length, take, drop, sym, refl, ap, ◌∙◌, ⊎_elim, arith, drop_of_length-le, take_all}
 use mathlib.Core.Option.{Option, none, some}
+use Prim.Native.Nat.{min}
 use Rattle.standard.specs.Delivery.{Bytes}
 use Rattle.standard.proofs.General.{le-or-lt}
 use Rattle.byte_string.specs.Strings.{end_of, Writes, WritesWithin}
@@ -54,8 +55,8 @@ row_put n l f o o₁ o₂ o₃ o₄ o₅ at p q r s e v w x y z =
     wrote-two o o₁ o₅ at p e (head_text n l) (fault_text l f) _ refl v.0 v.1 h.0 h.1
 
 -- the first 260 bytes of a line
-pub first-kept : (l : Bytes) (k : ℕ) → k ≤ length l → (k ≡ 260) ⊎ (k ≡ length l) → k ≤ 260 → take k l ≡ take 260 l
-first-kept l k h e m = ⊎_elim (λ g. ap (λ (j : ℕ). take j l) g) (λ g. take_all k l (omega arith) ∙ sym (take_all 260 l (omega arith))) e
+pub first-kept : (l : Bytes) (k : ℕ) → k ≡ min (length l) 260 → take k l ≡ take 260 l
+first-kept l k e = ⊎_elim (λ g. take_all k l (omega arith) ∙ sym (take_all 260 l (omega arith))) (λ g. ap (λ (j : ℕ). take j l) (let z : k ≡ 260 = omega arith in z)) (le-or-lt (length l) 260)
 
 -- no row, and the row of a fault
 pub nothing_put : (n : ℕ) (l o : Bytes) (at : ℕ) (g : Option LineFault) → g ≡ none → WritesWithin (at + 2400) o at (row_if n l g) at o

@@ -3,10 +3,9 @@ use Rattle.std.proofs.Math.Option.{Option, none, some}
 use Rattle.bill_rules.specs.Refusals.{MemberFault as MemberWrong, no_tab, no_member, no_number, zero_first, out_of_range, LineFault as LineWrong, of_member, of_identifier}
 use Rattle.refused_rows.specs.declared.member.MemberFault.{MemberFault}
 use Rattle.refused_rows.specs.declared.member.MemberFault.TheVariants.{NoTab, NoMember, NoNumber, ZeroFirst, OutOfRange}
-use Rattle.refused_rows.specs.declared.member.Member.{Member}
-use Rattle.refused_rows.specs.declared.member.Member.TheVariants.{Good, Bad}
+use Rattle.std.specs.Prelude.{⊤, Result, Ok, Err}
 use Rattle.refused_rows.specs.declared.fault.LineFault.{LineFault}
-use Rattle.refused_rows.specs.declared.fault.LineFault.TheVariants.{Nothing, OfMember, OfIdentifier}
+use Rattle.refused_rows.specs.declared.fault.LineFault.TheVariants.{OfMember, OfIdentifier}
 
 -- the rules' fault that an answer stands for
 unfoldable pub wrong_is : MemberFault → MemberWrong
@@ -17,12 +16,12 @@ wrong_is ZeroFirst = zero_first
 wrong_is OutOfRange = out_of_range
 
 -- of a member
-unfoldable pub member_is : Member → Option MemberWrong
-member_is Good = none
-member_is (Bad f) = some (wrong_is f)
+unfoldable pub member_is : Result ⊤ MemberFault → Option MemberWrong
+member_is (Ok done) = none
+member_is (Err f) = some (wrong_is f)
 
 -- of a line
-unfoldable pub fault_is : LineFault → Option LineWrong
-fault_is Nothing = none
-fault_is (OfMember f) = some (of_member (wrong_is f))
-fault_is (OfIdentifier n p) = some (of_identifier n p)
+unfoldable pub fault_is : Result ⊤ LineFault → Option LineWrong
+fault_is (Ok done) = none
+fault_is (Err (OfMember f)) = some (of_member (wrong_is f))
+fault_is (Err (OfIdentifier n p)) = some (of_identifier n p)

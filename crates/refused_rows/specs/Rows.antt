@@ -1,5 +1,5 @@
 -- The rows of the program `refused`, and what a call gives back for a piece of usage lines. Assumes nothing.
-use Rattle.std.specs.Prelude.{ℕ, List, [], ◌∷◌, ◌++◌, length, take, drop}
+use Rattle.std.specs.Prelude.{ℕ, List, [], ◌∷◌, ◌++◌, length, take, drop, Result, Ok, Err}
 use Rattle.std.proofs.Math.Option.{Option, none, some}
 use Rattle.standard.specs.Tag.{text}
 use Rattle.standard.specs.Delivery.{Bytes}
@@ -10,6 +10,8 @@ use Rattle.meaning.specs.Meaning.{meaning_of}
 use Rattle.bill_rules.specs.Bill.{before_tab, after_tab}
 use Rattle.bill_rules.specs.Refusals.{MemberFault, no_tab, no_member, no_number, zero_first, out_of_range, LineFault, of_member, of_identifier, line_fault, Numbered, refused_lines}
 use Rattle.refused_rows.specs.Numbered.{piece_text, piece_used, piece_next}
+use Rattle.table_check.specs.declared.Fault.{Fault}
+use Rattle.table_check.specs.Verdicts.{number_of, table_of}
 use Rattle.refused_rows.specs.declared.Rowed.{Rowed}
 
 -- the words for what is wrong before the identifier
@@ -105,6 +107,7 @@ refused_given A L first x out =
     after_tables (check to_maximise A L []) first
     (rows_given (piece_used row 2400 room first x) (piece_next row 2400 room first x) (piece_text row 2400 room first x) out) out
 
--- an answer of the code, with the output afterwards
-unfoldable pub rowed_is : Rowed → Bytes → Answer
-rowed_is r out = record { number = r.number; place = r.place; table = r.table; used = r.used; next = r.next; len = r.len; output = out }
+-- an answer of the code over a piece whose first line has this number, with the output afterwards
+unfoldable pub rowed_is : ℕ → Result Rowed Fault → Bytes → Answer
+rowed_is first (Ok r) out = record { number = 0; place = 0; table = 0; used = r.used; next = r.next; len = r.len; output = out }
+rowed_is first (Err f) out = record { number = number_of f; place = f.place; table = table_of f; used = 0; next = first; len = 0; output = out }

@@ -7,28 +7,24 @@ mod fault;
 mod member;
 mod row;
 
-ghost use Rattle.std.specs.Prelude.{◌≡◌, ◌+◌, ◌≤◌, ◌⊎◌, length};
+ghost use Rattle.std.specs.Prelude.{◌≡◌, Ok, IfOk, ◌+◌, ◌≤◌, ◌⊎◌, length};
 ghost use Rattle.byte_string.specs.Strings.{WritesWithin};
-ghost use Rattle.table.specs.Hints.{Hinted};
 ghost use Rattle.operations.specs.Both.{TestedBoth};
 ghost use Rattle.refused_rows.specs.Rows.{kept_row, line_row, refused_given, rowed_is};
 
 use byte_string::end_of;
-use fault::line_fault;
+use fault::check_line;
 use lines::next_line;
 use operations::complete::form_buffer;
+use operations::tables::{TestedTables, tested};
 use row::put_fault;
 use std::num::wrapping_add_usize;
-use table::hints::{fill_hints, many};
-use table_check::{Verdict, check_likely};
+use table::hints::{fill_hints, indexed, many};
+use table_check::{Fault, check_likely};
 
-// Number, place and table of the tables' refusal; how many bytes of the piece were answered, the number of the line behind
-// them, and the length of the rows.
+// How many bytes of the piece were answered, the number of the line behind them, and the length of the rows.
 #[derive(Clone, Copy)]
 pub struct Rowed {
-    pub number: u8,
-    pub place: usize,
-    pub table: u8,
     pub used: usize,
     pub next: usize,
     pub len: usize,
@@ -38,118 +34,67 @@ pub struct Rowed {
 fn put_kept(
     n: usize,
     line: &[u8],
-    aliases: &[u8],
-    alias_hints: &[u16],
-    likely: &[u8],
-    likely_hints: &[u16],
+    tables: TestedTables,
     form: &mut [u8],
     out: &mut [u8],
     at: usize,
 ) -> usize
-    requires { let aliases = aliases.now in let likely = likely.now in
-        TestedBoth aliases likely × Hinted aliases alias_hints.now × Hinted likely likely_hints.now × (length form.old ≡ 256)
-        × (length line.now ≤ 260) × (at + 2400 ≤ length out.old) }
-    ensures { let out' = out.exit.now in let out = out.entry.now in let aliases = aliases.entry.now in
-        let likely = likely.entry.now in let line = line.entry.now in
-        WritesWithin (at + 2400) out at (kept_row aliases likely n line) result out' }
+    requires { (length form.old ≡ 256) × (length line.now ≤ 260) × (at + 2400 ≤ length out.old) }
+    ensures { let out' = out.exit.now in let out = out.entry.now in let tables = tables.entry in
+        WritesWithin (at + 2400) out at (kept_row tables.aliases.rows.now tables.likely.rows.now n line.entry.now) result out' }
 {
-    let f = line_fault(line, aliases, alias_hints, likely, likely_hints, form);
-    put_fault(f, n, line, out, at)
+    put_fault(check_line(line, tables, form), n, line, out, at)
 }
 
-// How many bytes of a line are looked at.
-fn kept_length(n: usize) -> usize
-    ensures { (result ≤ n) × (result ≤ 260) × ((result ≡ 260) ⊎ (result ≡ n)) }
-{
-    if n < 260 {
-        return n;
-    }
-    260
-}
-
-// Writes the row of a line at the place at, where it is refused, and gives the next place.
+// Writes the row of a line at the place at, where it is refused, and gives the next place. Only its first 260 bytes are
+// looked at.
 fn put_row(
     n: usize,
     line: &[u8],
-    aliases: &[u8],
-    alias_hints: &[u16],
-    likely: &[u8],
-    likely_hints: &[u16],
+    tables: TestedTables,
     form: &mut [u8],
     out: &mut [u8],
     at: usize,
 ) -> usize
-    requires { let aliases = aliases.now in let likely = likely.now in
-        TestedBoth aliases likely × Hinted aliases alias_hints.now × Hinted likely likely_hints.now × (length form.old ≡ 256)
-        × (at + 2400 ≤ length out.old) }
-    ensures { let out' = out.exit.now in let out = out.entry.now in let aliases = aliases.entry.now in
-        let likely = likely.entry.now in let line = line.entry.now in
-        WritesWithin (at + 2400) out at (line_row aliases likely n line) result out' }
+    requires { (length form.old ≡ 256) × (at + 2400 ≤ length out.old) }
+    ensures { let out' = out.exit.now in let out = out.entry.now in let tables = tables.entry in
+        WritesWithin (at + 2400) out at (line_row tables.aliases.rows.now tables.likely.rows.now n line.entry.now) result out' }
 {
-    let k = kept_length(line.len());
-    put_kept(
-        n,
-        &line[..k],
-        aliases,
-        alias_hints,
-        likely,
-        likely_hints,
-        form,
-        out,
-        at,
-    )
+    put_kept(n, &line[..line.len().min(260)], tables, form, out, at)
 }
 
-// The rows over tables that passed the check, each with its hints.
+// The rows over tables that passed the check, of a piece whose first line has the number `first`.
 pub fn rows_hinted(
     first: usize,
     piece: &[u8],
-    aliases: &[u8],
-    alias_hints: &[u16],
-    likely: &[u8],
-    likely_hints: &[u16],
+    tables: TestedTables,
     form: &mut [u8],
     out: &mut [u8],
 ) -> Rowed
-    requires { let aliases = aliases.now in let likely = likely.now in
-        TestedBoth aliases likely × Hinted aliases alias_hints.now × Hinted likely likely_hints.now × (length form.old ≡ 256) }
-    ensures { let out' = out.exit.now in let aliases = aliases.entry.now in let likely = likely.entry.now in
-        let piece = piece.entry.now in let out = out.entry.now in
-        (rowed_is result out' ≡ refused_given aliases likely first piece out) × (result.used ≤ length piece) × (result.len ≤ length out) }
+    requires { length form.old ≡ 256 }
+    ensures given { let out' = out.exit.now in let tables = tables.entry in
+        rowed_is first (Ok result) out' ≡ refused_given tables.aliases.rows.now tables.likely.rows.now first piece.entry.now out.entry.now }
+    ensures in_piece { result.used ≤ length piece.now }
+    ensures in_out { result.len ≤ length out.old }
 {
     let mut at = 0;
     let mut next = first;
     let mut len = 0;
+    // a step is as long as its line
     while at < piece.len() {
         if out.len() - len < 2400 {
             return Rowed {
-                number: 0,
-                place: 0,
-                table: 0,
                 used: at,
                 next,
                 len,
             };
         }
         let e = end_of(piece, b'\n', at);
-        len = put_row(
-            next,
-            &piece[at..e],
-            aliases,
-            alias_hints,
-            likely,
-            likely_hints,
-            form,
-            out,
-            len,
-        );
+        len = put_row(next, &piece[at..e], tables, form, out, len);
         next = wrapping_add_usize(next, 1);
         at = next_line(piece.len(), e);
     }
     Rowed {
-        number: 0,
-        place: 0,
-        table: 0,
         used: at,
         next,
         len,
@@ -159,36 +104,33 @@ pub fn rows_hinted(
 // The rows over tables that passed the check: their hints and the room for a form are made once for all lines.
 fn rows_tested(first: usize, piece: &[u8], aliases: &[u8], likely: &[u8], out: &mut [u8]) -> Rowed
     requires { TestedBoth aliases.now likely.now }
-    ensures { let out' = out.exit.now in let aliases = aliases.entry.now in let likely = likely.entry.now in
-        let piece = piece.entry.now in let out = out.entry.now in
-        (rowed_is result out' ≡ refused_given aliases likely first piece out) × (result.used ≤ length piece) × (result.len ≤ length out) }
+    ensures given { let out' = out.exit.now in let aliases = aliases.entry.now in let likely = likely.entry.now in
+        rowed_is first (Ok result) out' ≡ refused_given aliases likely first piece.entry.now out.entry.now }
+    ensures in_piece { result.used ≤ length piece.now }
+    ensures in_out { result.len ≤ length out.old }
 {
     let mut a = many();
     fill_hints(aliases, &mut a);
     let mut l = many();
     fill_hints(likely, &mut l);
-    let mut form = form_buffer();
-    rows_hinted(first, piece, aliases, &a, likely, &l, &mut form, out)
+    let tables = tested(indexed(aliases, &a), indexed(likely, &l));
+    rows_hinted(first, piece, tables, &mut form_buffer(), out)
 }
 
 // Tests the tables, then writes the rows of the refused lines of a piece, whose first line has the number `first`, at the
-// front of out, as long as 2,400 bytes are free before each line. A bad table gives its number, place and table, and no
-// rows.
-pub fn rows_of(first: usize, piece: &[u8], aliases: &[u8], likely: &[u8], out: &mut [u8]) -> Rowed
-    ensures { let out' = out.exit.now in let aliases = aliases.entry.now in let likely = likely.entry.now in
-        let piece = piece.entry.now in let out = out.entry.now in
-        (rowed_is result out' ≡ refused_given aliases likely first piece out) × (result.used ≤ length piece) × (result.len ≤ length out) }
+// front of out, as long as 2,400 bytes are free before each line. A bad table gives its fault, and no rows.
+pub fn rows_of(
+    first: usize,
+    piece: &[u8],
+    aliases: &[u8],
+    likely: &[u8],
+    out: &mut [u8],
+) -> Result<Rowed, Fault>
+    ensures given { let out' = out.exit.now in let aliases = aliases.entry.now in let likely = likely.entry.now in
+        rowed_is first result out' ≡ refused_given aliases likely first piece.entry.now out.entry.now }
+    ensures in_piece { IfOk result (λ r. r.used ≤ length piece.now) }
+    ensures in_out { IfOk result (λ r. r.len ≤ length out.old) }
 {
-    let v = check_likely(aliases, likely);
-    if let Verdict::Bad(number, place, table) = v {
-        return Rowed {
-            number,
-            place,
-            table,
-            used: 0,
-            next: first,
-            len: 0,
-        };
-    }
-    rows_tested(first, piece, aliases, likely, out)
+    check_likely(aliases, likely)?;
+    Ok(rows_tested(first, piece, aliases, likely, out))
 }

@@ -2,14 +2,14 @@
 ghost use Rattle.std.specs.Prelude.{◌≡◌};
 ghost use Rattle.bill_rules.specs.Bill.{member_of};
 ghost use Rattle.bill_rules.specs.Refusals.{digits, leading_zero, member_fault};
-ghost use Rattle.bill_lines.specs.Shapes.{or_zero};
+ghost use Rattle.bill_lines.specs.Shapes.{member_is as number_is};
 ghost use Rattle.refused_rows.specs.Faults.{member_is};
 
 use bill_lines::shape::{one_digit, two_digits};
 use subtag::is_digit;
 
 // What is wrong before the identifier.
-#[derive(Clone, Copy)]
+#[derive(Clone, Copy, PartialEq, Eq)]
 pub enum MemberFault {
     NoTab,
     NoMember,
@@ -18,66 +18,44 @@ pub enum MemberFault {
     OutOfRange,
 }
 
-// A member: one of 1 to 64, or what is wrong with it.
-#[derive(Clone, Copy)]
-pub enum Member {
-    Good,
-    Bad(MemberFault),
-}
-
 // Digits and nothing else?
 fn all_digits(x: &[u8]) -> bool
     ensures { result ≡ digits x.now }
 {
-    let mut i = 0;
-    while i < x.len() {
-        if !is_digit(x[i]) {
-            return false;
-        }
-        i += 1;
-    }
-    true
+    x.iter().all(|b| is_digit(*b))
 }
 
 // Two bytes or more, and the first is 0?
 fn has_leading_zero(x: &[u8]) -> bool
     ensures { result ≡ leading_zero x.now }
 {
-    if x.len() < 2 {
-        return false;
-    }
-    x[0] == b'0'
+    2 <= x.len() && x[0] == b'0'
 }
 
-// The member, or 0.
-fn member_number(x: &[u8]) -> u8
-    ensures { result ≡ or_zero (member_of x.now) }
+// The member that a number names.
+fn member_named(x: &[u8]) -> Option<u8>
+    ensures { number_is result ≡ member_of x.now }
 {
-    if x.len() == 1 {
-        return one_digit(x[0]);
+    match x {
+        [d] => one_digit(*d),
+        [d, e] => two_digits(*d, *e),
+        _ => None,
     }
-    if x.len() == 2 {
-        return two_digits(x[0], x[1]);
-    }
-    0
 }
 
 // What is wrong with a member first.
-pub(crate) fn member_fault(x: &[u8]) -> Member
+pub(crate) fn check_member(x: &[u8]) -> Result<(), MemberFault>
     ensures { member_is result ≡ member_fault x.now }
 {
-    if x.len() == 0 {
-        return Member::Bad(MemberFault::NoMember);
+    if x.is_empty() {
+        Err(MemberFault::NoMember)
+    } else if !all_digits(x) {
+        Err(MemberFault::NoNumber)
+    } else if has_leading_zero(x) {
+        Err(MemberFault::ZeroFirst)
+    } else if member_named(x).is_none() {
+        Err(MemberFault::OutOfRange)
+    } else {
+        Ok(())
     }
-    let plain = all_digits(x);
-    if !plain {
-        return Member::Bad(MemberFault::NoNumber);
-    }
-    if has_leading_zero(x) {
-        return Member::Bad(MemberFault::ZeroFirst);
-    }
-    if member_number(x) == 0 {
-        return Member::Bad(MemberFault::OutOfRange);
-    }
-    Member::Good
 }

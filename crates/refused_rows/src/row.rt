@@ -83,14 +83,22 @@ fn put_identifier_row(
 }
 
 // Writes the row of a line at the place at, where something is wrong with it, and gives the next place.
-pub(crate) fn put_fault(f: LineFault, n: usize, line: &[u8], out: &mut [u8], at: usize) -> usize
+pub(crate) fn put_fault(
+    checked: Result<(), LineFault>,
+    n: usize,
+    line: &[u8],
+    out: &mut [u8],
+    at: usize,
+) -> usize
     requires { at + 2400 ≤ length out.old }
     ensures { let out' = out.exit.now in let out = out.entry.now in
-        WritesWithin (at + 2400) out at (row_if n line.now (fault_is f)) result out' }
+        WritesWithin (at + 2400) out at (row_if n line.now (fault_is checked)) result out' }
 {
-    match f {
-        LineFault::Nothing => at,
-        LineFault::OfMember(m) => put_member_row(m, n, line, out, at),
+    let Err(fault) = checked else {
+        return at;
+    };
+    match fault {
+        LineFault::OfMember(member) => put_member_row(member, n, line, out, at),
         LineFault::OfIdentifier(number, place) => put_identifier_row(
             number, place, n, line, out, at,
         ),

@@ -115,12 +115,12 @@ module _ (s : List ℕ) (l e : ℕ) (h : is_three s ≡ true) (f : l ≡ end_of 
   the-region : R ≡ drop (e + 1) s
   the-region = sym (sym (drop-drop 1 e s) ∙ ap (drop 1) behind-script ∙ led-rest R)
 
-  pub cut-three : ThreeAt s (record { ok = true; language = l; script = e })
+  pub cut-three : ThreeAt s (record { language = l; script = e })
   cut-three = record {
-    is = sym h;
+    is = h;
     low = omega (arith, script-end);
     high = omega (arith, script-end, language-end, size);
-    parts = λ _. ap₂ (λ (a b : Tag). three a b R) the-language the-script ∙ ap (three (take l s) (between s l e)) the-region;
+    parts = ap₂ (λ (a b : Tag). three a b R) the-language the-script ∙ ap (three (take l s) (between s l e)) the-region;
   }
 
 -- a language has at most 8 bytes

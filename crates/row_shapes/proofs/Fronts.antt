@@ -1,26 +1,26 @@
 -- Language, perhaps script, perhaps region at the front of a text, read in one pass.
 -- Assumes nothing.
 use mathlib.Core.Path.{◌≡◌, refl, sym, ap, ap₂, ◌∙◌}
-use mathlib.Core.Bool.{Bool, true, false, cond, ◌&&◌}
+use mathlib.Core.Bool.{Bool, true, false, cond}
 use mathlib.Core.Logic.{◌⊎◌, inl, inr, ⊎_elim}
 use mathlib.Core.List.{List, [], ◌∷◌, ◌++◌, append-nil, append_assoc}
 use Prim.Native.Nat.{ℕ, zero, suc, ◌+◌, ◌-◌, ◌≤◌, ◌<◌}
 use native.Mathlib.Omega.{arith}
-use native.Mathlib.Numerals.{add-one}
 use lib.Dec.{ltb, eqb}
-use lib.ListN.{length, get_or, take, drop, length-append, length-drop, drop_of_length-le, take-append-drop}
+use lib.ListN.{length, get_or, take, drop, length-append, length-drop, take-append-drop}
 use lib.Seq.{drop-cons, take-add, get_or-drop, drop-append_seam, length-take-le, take-length, drop-drop}
-use borrow.Author.Tests.{lt-ltb, le-ltb, eq-eqb, ne_eqb, ltb-true, ltb-false, eqb-true}
+use borrow.Author.Tests.{le-ltb, eq-eqb, ne_eqb, ltb-true, ltb-false, eqb-true}
+use Rattle.std.specs.List.{take_while, prefix_len}
+use Rattle.std.proofs.lemmas.List.Folds.{length-prefix_len}
 use Rattle.standard.specs.Tag.{Tag}
 use Rattle.standard.specs.Grammar.{small, capital, digit, every, is_language}
 use Rattle.standard.specs.Identifier.{Three as Subtags, three}
 use Rattle.standard.specs.Reading.{optional, joined}
 use Rattle.standard.specs.Table.{parse, print_three, is_three}
-use Rattle.standard.proofs.General.{bool_cases, clash, and-true, both_ways}
+use Rattle.standard.proofs.General.{bool_cases, clash, and-true}
 use Rattle.subtag.proofs.Bytes.{under}
-use Rattle.row_shapes.specs.Shapes.{allowed, is_script, is_region, between, run, language_len, script_len, region_len, FrontAt, ThreeAt}
+use Rattle.row_shapes.specs.Shapes.{is_script, is_region, between, run, language_len, script_len, region_len, WholeAt, FrontAt, ThreeAt}
 use Rattle.row_shapes.specs.declared.lsr.Front.{Front as Read}
-use Rattle.row_shapes.specs.declared.subtags.Bytes.TheVariants.{Small, Capital, Digit}
 use Rattle.byte_string.proofs.Stores.{all_from}
 use Rattle.row_shapes.proofs.Tags.{language-short, language-four, language-long, language-letters, script-is, script-length, region-sizes, region-two, region-three, every-both, not-capital, digit_low}
 use Rattle.row_shapes.proofs.Threes.{ThreeOk, three-ok, print-is-three, parse-print}
@@ -35,21 +35,16 @@ module _ (p : ℕ → Bool) where
   unfolding run
   run-no b s e = rw (e, run)
 
--- The loop over a run: what is counted already, and the run from i on.
-module _ (p : ℕ → Bool) (s : List ℕ) (i x : ℕ) where
-  pub run-done : (n : ℕ) → x ≡ n + run p (drop i s) → length s ≤ i → n ≡ x
-  unfolding run
-  run-done n e h = let q = rw (drop_of_length-le s h) at e in omega arith
-
-  pub run-found : (n : ℕ) → x ≡ n + run p (drop i s) → i < length s → p (get_or s i 0) ≡ false → n ≡ x
-  run-found n e h f = let q = ap (run p) (drop-cons s i 0 h) ∙ run-no p (get_or s i 0) (drop (suc i) s) f in omega arith
-
-  pub run_more : (from : ℕ) → from ≤ i → x ≡ (i - from) + run p (drop i s) → i < length s → p (get_or s i 0) ≡ true → x ≡ (i + 1 - from) + run p (drop (i + 1) s)
-  run_more from g e h f =
-      let q = ap (run p) (drop-cons s i 0 h) ∙ run-yes p (get_or s i 0) (drop (suc i) s) f in
-      rw add-one (omega arith)
-
 module _ (p : ℕ → Bool) where
+  -- a run, as std has it
+  run-prefix : (s : List ℕ) → prefix_len p s ≡ run p s
+  unfolding run
+  run-prefix [] = refl
+  run-prefix (b ∷ s) = bool_cases (p b) (λ e. rw (run-yes p b s e, e) (let i = run-prefix s in omega arith)) (λ e. rw (run-no p b s e, e))
+
+  pub run-while : (s : List ℕ) → length (take_while p s) ≡ run p s
+  run-while s = length-prefix_len p s ∙ run-prefix s
+
   run-le : (s : List ℕ) → run p s ≤ length s
   unfolding run
   run-le [] = omega arith
@@ -94,26 +89,10 @@ language-sized t e = record {
 }
 
 -- the code's branches
-module _ (s : List ℕ) (n : ℕ) (q : n ≡ run (allowed Small) s) where
-  letters : n ≡ run small s
-  unfolding allowed
-  letters = q
-
-  pub len_short : n < 2 → 0 ≡ language_len s
-  unfolding language_len
-  len_short h = rw (← letters, lt-ltb n 2 h)
-
-  pub len-four : 2 ≤ n → n ≡ 4 → 0 ≡ language_len s
-  unfolding language_len
-  len-four h e = rw (← letters, le-ltb n 2 h, eq-eqb n 4 e)
-
-  pub len-long : 2 ≤ n → (n ≡ 4 → ⊥) → 8 < n → 0 ≡ language_len s
-  unfolding language_len
-  len-long h e k = rw (← letters, le-ltb n 2 h, ne_eqb n 4 e, lt-ltb 8 n k)
-
+module _ (s : List ℕ) (n : ℕ) (q : n ≡ run small s) where
   pub len-sized : 2 ≤ n → (n ≡ 4 → ⊥) → n ≤ 8 → n ≡ language_len s
   unfolding language_len
-  len-sized h e k = rw (← letters, le-ltb n 2 h, ne_eqb n 4 e, le-ltb 8 n k)
+  len-sized h e k = rw (← q, le-ltb n 2 h, ne_eqb n 4 e, le-ltb 8 n k)
 
 module _ (y : List ℕ) where
   pub script-short : length y < 2 → 0 ≡ script_len y
@@ -145,37 +124,6 @@ module _ (y : List ℕ) where
     unfolding script_len
     script-lower b = rw (eq-eqb (get_or y 0 0) 45 a, b)
 
-    module _ (b : capital (get_or y 1 0) ≡ true) (n : ℕ) (q : n ≡ run (allowed Small) (drop 2 y)) where
-      pub script-yes : n ≡ 3 → 5 ≡ script_len y
-      unfolding script_len
-      script-yes c = rw (eq-eqb (get_or y 0 0) 45 a, b, ← letters (drop 2 y) n q, eq-eqb n 3 c)
-
-      pub script-no : (n ≡ 3 → ⊥) → 0 ≡ script_len y
-      unfolding script_len
-      script-no c = rw (eq-eqb (get_or y 0 0) 45 a, b, ← letters (drop 2 y) n q, ne_eqb n 3 c)
-
-    module _ (n : ℕ) (q : n ≡ run (allowed Capital) (drop 1 y)) where
-      capitals : n ≡ run capital (drop 1 y)
-      unfolding allowed
-      capitals = q
-
-      pub region-two-yes : n ≡ 2 → 3 ≡ region_len y
-      unfolding region_len
-      region-two-yes c = rw (eq-eqb (get_or y 0 0) 45 a, ← capitals, eq-eqb n 2 c)
-
-      module _ (c : n ≡ 2 → ⊥) (m : ℕ) (r : m ≡ run (allowed Digit) (drop 1 y)) where
-        digits : m ≡ run digit (drop 1 y)
-        unfolding allowed
-        digits = r
-
-        pub region-three-yes : m ≡ 3 → 4 ≡ region_len y
-        unfolding region_len
-        region-three-yes d = rw (eq-eqb (get_or y 0 0) 45 a, ← capitals, ne_eqb n 2 c, ← digits, eq-eqb m 3 d)
-
-        pub region-no : (m ≡ 3 → ⊥) → 0 ≡ region_len y
-        unfolding region_len
-        region-no d = rw (eq-eqb (get_or y 0 0) 45 a, ← capitals, ne_eqb n 2 c, ← digits, ne_eqb m 3 d)
-
 module _ (s : List ℕ) where
   len-le : language_len s ≤ length s
   unfolding language_len
@@ -201,14 +149,9 @@ module _ (s : List ℕ) where
           sym (language-letters (take (run small s) s) (omega arith) (λ q. b (sym n ∙ q)) (omega arith)) ∙ run-every small s
 
 language-over : (L y : List ℕ) → is_language L ≡ true → get_or y 0 0 ≤ 45 → language_len (L ++ y) ≡ length L
-unfolding allowed
 language-over L y e h =
     let z = language-sized L e in
-    let r = run-over small L y (language-letters L z.low z.four z.high ∙ e) (low_small _ h) in
-    sym (len-sized (L ++ y) (length L) (sym (small-run r)) z.low z.four z.high)
-  where
-    small-run : run small (L ++ y) ≡ length L → run (allowed Small) (L ++ y) ≡ length L
-    small-run r = r
+    sym (len-sized (L ++ y) (length L) (sym (run-over small L y (language-letters L z.low z.four z.high ∙ e) (low_small _ h))) z.low z.four z.high)
 
 -- A separator and a subtag.
 unfoldable pub led : Tag → List ℕ
@@ -429,38 +372,51 @@ module _ (s : List ℕ) (l m n : ℕ) (a : l ≡ language_len s) (b' : m ≡ scr
       let v : n - 1 ≡ l + m + n - (l + m + 1) = omega arith in
       ap₂ (three (take l s)) (ap₂ take u (drop-drop 1 l s)) (ap₂ take v (drop-drop 1 (l + m) s))
 
-  pub front_at : FrontAt s (record { ok = ltb 0 l; language = l; script = l + m; end = l + m + n })
-  front_at = record {
+  pub front_at : 0 < l → FrontAt s (record { language = l; script = l + m; end = l + m + n })
+  front_at g = record {
     low = omega arith;
     mid = omega arith;
     high = region-room s (l + m) n room c';
-    is = λ g. front-three (ltb-true 0 l g);
-    parts = λ g. front-parse (ltb-true 0 l g) ∙ parts_is;
-    whole = λ f h k e. let w = front-whole f h k e in (lt-ltb 0 l w.0, w.1);
+    is = front-three g;
+    parts = front-parse g ∙ parts_is;
+    whole = λ f w. (front-whole f w.room w.low w.three).1;
   }
 
--- a text that is nothing more
-whole : (s : List ℕ) (r : Read) → FrontAt s r → ThreeAt s (record { ok = r.ok && eqb r.end (length s); language = r.language; script = r.script })
-whole s r f = record {
-  is = both_ways (r.ok && eqb r.end (length s)) (is_three s)
-      (λ e. let h = and-true r.ok (eqb r.end (length s)) e in sym (ap is_three (all h.1)) ∙ f.is h.0)
-      (λ e. let w = f.whole (length s) (omega arith) (rw (get_d_past s) (omega arith)) (ap is_three (take-length s) ∙ e) in rw (w.0, eq-eqb r.end (length s) (sym w.1)));
-  low = f.low;
-  high = let a = f.mid in let b = f.high in omega arith;
-  parts = λ e.
-      let h = and-true r.ok (eqb r.end (length s)) e in
-      sym (ap parse (all h.1)) ∙ f.parts h.0 ∙ ap (three (take r.language s) (between s r.language r.script)) (rest (eqb-true _ _ h.1));
-}
+-- no language, no such text
+pub no-front : (s : List ℕ) (l : ℕ) → l ≡ language_len s → l ≡ 0 → (f : ℕ) → WholeAt s f → ⊥
+no-front s l a z f w =
+    let e = l + script_len (drop l s) in
+    let h = front-whole s l (script_len (drop l s)) (region_len (drop e s)) a (ap script_len (sym (all_from l s))) (ap region_len (sym (all_from e s))) f w.room w.low w.three in
+    omega (arith, h.0)
+
+pub whole-at : (s : List ℕ) → is_three s ≡ true → WholeAt s (length s)
+whole-at s e = record { room = omega arith; low = rw (past s) (omega arith); three = ap is_three (take-length s) ∙ e }
   where
-    all : eqb r.end (length s) ≡ true → take r.end s ≡ s
-    all e = ap (λ (n : ℕ). take n s) (eqb-true r.end (length s) e) ∙ take-length s
+    past : (x : List ℕ) → get_or x (length x) 0 ≡ 0
+    past [] = refl
+    past (b ∷ x) = past x
 
-    get_d_past : (x : List ℕ) → get_or x (length x) 0 ≡ 0
-    get_d_past [] = refl
-    get_d_past (b ∷ x) = get_d_past x
+-- a text that is nothing more
+module _ (s : List ℕ) (r : Read) (f : FrontAt s r) where
+  pub three-whole : length s ≤ r.end → ThreeAt s (record { language = r.language; script = r.script })
+  three-whole h =
+      let a = f.mid in
+      let b = f.high in
+      let q : r.end ≡ length s = omega arith in
+      let w : take r.end s ≡ s = ap (λ (n : ℕ). take n s) q ∙ take-length s in
+      record {
+        is = sym (ap is_three w) ∙ f.is;
+        low = f.low;
+        high = omega arith;
+        parts = sym (ap parse w) ∙ f.parts ∙ ap (three (take r.language s) (between s r.language r.script)) (rest q);
+      }
+    where
+      rest : r.end ≡ length s → between s r.script r.end ≡ drop (r.script + 1) s
+      rest e = rw e (all_from (r.script + 1) s)
 
-    rest : r.end ≡ length s → between s r.script r.end ≡ drop (r.script + 1) s
-    rest e = rw e (all_from (r.script + 1) s)
+  pub three-more : r.end < length s → is_three s ≡ false
+  three-more h = bool_cases (is_three s) (λ e. absurd (let q = f.whole (length s) (whole-at s e) in omega arith)) (λ e. e)
 
-pub three-whole : (s : List ℕ) (r : Read) (k : Bool) → FrontAt s r → k ≡ (r.ok && eqb r.end (length s)) → ThreeAt s (record { ok = k; language = r.language; script = r.script })
-three-whole s r k f q = rw q (whole s r f)
+-- where nothing is read, it is none
+pub three-none : (s : List ℕ) → ((f : ℕ) → WholeAt s f → ⊥) → is_three s ≡ false
+three-none s n = bool_cases (is_three s) (λ e. absurd (n (length s) (whole-at s e))) (λ e. e)

@@ -13,6 +13,9 @@ use lib.Dec.{eqb}
 use lib.ListN.{length, get_or, take, drop, take-append-drop, length-take, length-drop, drop_of_length-le}
 use lib.Seq.{take-take, drop-cons, length-take-le}
 use borrow.Author.Tests.{lt-ltb, lt-leb, eqb-true}
+use Rattle.std.specs.declared.cmp.Ordering.{Ordering as Answer}
+use Rattle.std.specs.declared.cmp.Ordering.TheVariants.{Less, Equal, Greater}
+use Rattle.std.specs.Ordering.{is_lt}
 use Rattle.standard.specs.Tag.{Tag, and_then, order}
 use Rattle.standard.specs.Reading.{Fault, fault}
 use Rattle.standard.specs.Grammar.{is_language, language_size, size_of}
@@ -24,7 +27,6 @@ use Rattle.table.specs.Search.{below}
 use Rattle.byte_string.proofs.Ends.{Ends, ends}
 use Rattle.standard.proofs.Table.{Some, pieces-some}
 use Rattle.table.proofs.Searches.{below-lt, below-gt, below_eq}
-use Rattle.byte_string.specs.declared.Order.{Order}
 use Rattle.row_shapes.specs.declared.Table.{Table}
 use Rattle.row_shapes.specs.declared.Table.TheVariants.{Aliases, Likely, Parents}
 use Rattle.row_shapes.specs.Shapes.{between, others}
@@ -252,5 +254,10 @@ pub pass-start : (table : Table) (t : List ℕ) → rows_fault (shape_of (kind_i
 unfolding rows last_of
 pass-start table t = refl
 
-pub rises-is : (a b : List ℕ) (r : Order) (o : Ordering) → order_of r ≡ order a b → order_of r ≡ o → is_less o ≡ below a b
-rises-is a b r o e f = ap is_less (sym f ∙ e) ∙ sym (below-order a b)
+pub rises-is : (a b : List ℕ) (r : Answer) → order_of r ≡ order a b → is_lt r ≡ below a b
+rises-is a b r e = go r ∙ ap is_less e ∙ sym (below-order a b)
+  where
+    go : (x : Answer) → is_lt x ≡ is_less (order_of x)
+    go Less = refl
+    go Equal = refl
+    go Greater = refl

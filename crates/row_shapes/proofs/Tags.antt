@@ -4,13 +4,14 @@ use mathlib.Core.Path.{◌≡◌, refl, sym, ap, ap₂, ◌∙◌}
 use mathlib.Core.Bool.{Bool, true, false, cond, ◌&&◌, ◌||◌}
 use mathlib.Core.List.{List, [], ◌∷◌, map, head-eq_of_cons-eq, tail-eq_of_cons-eq}
 use mathlib.Core.Logic.{◌⊎◌, inl, inr, ⊎_elim}
-use Rattle.standard.proofs.General.{le-or-lt, bool_cases, and-true, both_ways, no}
+use Rattle.standard.proofs.General.{le-or-lt, bool_cases, clash, and-true, both_ways, no}
 use Rattle.subtag.specs.Kinds.{size_from}
 use Prim.Native.Nat.{ℕ, zero, suc, ◌+◌, ◌-◌, ◌≤◌, ◌<◌}
-use native.Mathlib.Numerals.{add-one}
 use native.Mathlib.Omega.{arith}
-use lib.ListN.{length, get_or, drop, drop_of_length-le, length-map}
-use lib.Seq.{drop-cons}
+use lib.Dec.{ltb, eqb}
+use borrow.Author.Tests.{ltb-true, ltb-false, eqb-true, eq-eqb}
+use lib.ListN.{length, get_or, drop, length-map}
+use Rattle.std.specs.List.{list_all}
 use Rattle.standard.specs.Tag.{Tag, same}
 use Rattle.standard.specs.Grammar.{small, capital, digit, lower_byte, upper_byte, every, title, upper, Size, size0, size1, size2, size3, size4, size5to8, size_over8, size_of, starts_with_digit, is_language, language_size, Kind, a_script, a_region, a_variant, a_none, kind, kind_of}
 use Rattle.standard.specs.Reading.{of_kind}
@@ -22,22 +23,13 @@ use Rattle.subtag.proofs.Bytes.{capital-in, small-in, digit-in, inside, under, o
 use Rattle.subtag.specs.Subtags.{subtag_of, first_byte}
 use Rattle.subtag.proofs.Shapes as shapes
 use Rattle.subtag.proofs.Shapes.{language-from, kind-from, digit-first, every-count, size-from, size-empty, size-one, size-two, size-three, size-four, size-several, size-long}
-use Rattle.row_shapes.specs.declared.subtags.Bytes.TheVariants.{Word}
-use Rattle.row_shapes.specs.Shapes.{allowed, is_script, is_region}
+use Rattle.row_shapes.specs.Shapes.{is_script, is_region}
 
--- The loop over the bytes of a subtag.
-module _ (p : ℕ → Bool) (s : List ℕ) (i : ℕ) where
-  pub every-end : length s ≤ i → every p (drop i s) ≡ true
-  unfolding every
-  every-end h = rw (drop_of_length-le s h)
-
-  pub every-not : i < length s → p (get_or s i 0) ≡ false → every p (drop i s) ≡ false
-  unfolding every
-  every-not h e = rw (drop-cons s i 0 h, e)
-
-  pub every-next : i < length s → p (get_or s i 0) ≡ true → every p (drop i s) ≡ every p (drop (i + 1) s)
-  unfolding every
-  every-next h e = rw (add-one, drop-cons s i 0 h, e)
+-- the test of all bytes, as std has it
+pub every-all : (p : ℕ → Bool) (s : List ℕ) → list_all p s ≡ every p s
+unfolding every
+every-all p [] = refl
+every-all p (b ∷ s) = ap (λ (x : Bool). p b && x) (every-all p s)
 
 -- Bytes in lower case, and back.
 module _ (b : ℕ) where
@@ -151,6 +143,12 @@ module _ (t : Tag) where
   pub language-letters : 2 ≤ length t → (length t ≡ 4 → ⊥) → length t ≤ 8 → every small t ≡ is_language t
   unfolding subtag_of
   language-letters h f k = every-count small t ∙ shapes.language-letters (subtag_of t) h f k ∙ language-from t
+
+  pub language-other : (2 ≤ length t → (length t ≡ 4 → ⊥) → length t ≤ 8 → ⊥) → false ≡ is_language t
+  language-other f =
+      bool_cases (ltb (length t) 2) (λ a. language-short (ltb-true _ _ a))
+      (λ a. bool_cases (eqb (length t) 4) (λ b. language-four (eqb-true _ _ b))
+      (λ b. bool_cases (ltb 8 (length t)) (λ d. language-long (ltb-true _ _ d)) (λ d. absurd (f (ltb-false _ _ a) (λ q. clash (eq-eqb _ _ q) b) (ltb-false _ _ d)))))
 
 -- Scripts and regions: what a kind says of the size.
 abbrev code : Size → ℕ
@@ -300,11 +298,11 @@ module _ (t : Tag) where
   unfolding is_variant_tag
   variant-by k e f = rw (e, f)
 
-  variant-on : kind_of t ≡ a_variant → every (allowed Word) t ≡ is_variant_tag t
-  unfolding is_variant_tag of_kind allowed is_word
+  variant-on : kind_of t ≡ a_variant → every (λ (b : ℕ). small b || digit b) t ≡ is_variant_tag t
+  unfolding is_variant_tag of_kind is_word
   variant-on e = rw e
 
-  pub variant-several : 5 ≤ length t → length t ≤ 8 → every (allowed Word) t ≡ is_variant_tag t
+  pub variant-several : 5 ≤ length t → length t ≤ 8 → every (λ (b : ℕ). small b || digit b) t ≡ is_variant_tag t
   unfolding subtag_of
   variant-several h k = variant-on (sym (kind-from t) ∙ sym (shapes.kind-several (subtag_of t) h k))
 
@@ -329,6 +327,11 @@ module _ (t : Tag) where
 
   pub variant-short : length t < 4 → false ≡ is_variant_tag t
   variant-short h = variant-by (kind_of t) refl (kind-short h)
+
+  pub variant-other : (4 ≤ length t → length t ≤ 8 → ⊥) → false ≡ is_variant_tag t
+  variant-other f =
+      bool_cases (ltb (length t) 4) (λ a. variant-short (ltb-true _ _ a))
+      (λ a. bool_cases (ltb 8 (length t)) (λ d. variant-long (ltb-true _ _ d)) (λ d. absurd (f (ltb-false _ _ a) (ltb-false _ _ d))))
 
   first_byte_lem : 0 < length t → first_byte t ≡ get_or t 0 0
   unfolding first_byte
@@ -360,7 +363,7 @@ module _ (t : Tag) where
       go : (l d : Bool) → of_kind a_variant (kind_of t) ≡ false
       go l d = rw (size-from t, size-four (length t) e, start) (fours (every small t) (every digit t))
 
-  pub variant-digit : length t ≡ 4 → digit (get_or t 0 0) ≡ true → every (allowed Word) t ≡ is_variant_tag t
+  pub variant-digit : length t ≡ 4 → digit (get_or t 0 0) ≡ true → every (λ (b : ℕ). small b || digit b) t ≡ is_variant_tag t
   unfolding kind_of kind
   variant-digit e f =
       let s : starts_with_digit t ≡ true = digit-first t ∙ ap digit (first_byte_lem (omega arith)) ∙ f in

@@ -1,21 +1,12 @@
 -- Subtags in canonical case, by their bytes and places. Each definition equals the standard's (proofs/).
 -- Assumes nothing.
-use Rattle.std.specs.Prelude.{◌≡◌, Bool, true, false, cond, ◌&&◌, ◌||◌, List, [], ◌∷◌, ℕ, suc, ◌+◌, ◌-◌, ◌≤◌, ◌<◌, ltb, leb, eqb, length, take, drop, get_or}
+use Rattle.std.specs.Prelude.{◌≡◌, Bool, true, false, cond, ◌&&◌, List, [], ◌∷◌, ℕ, suc, ◌+◌, ◌-◌, ◌≤◌, ◌<◌, ltb, leb, eqb, length, take, drop, get_or, Option, Some, None}
 use Rattle.standard.specs.Tag.{Tag}
 use Rattle.standard.specs.Grammar.{small, capital, digit, title, upper, a_script, a_region}
 use Rattle.standard.specs.Identifier.{three}
 use Rattle.standard.specs.Table.{in_canonical_case, pieces, is_three, parse}
-use Rattle.row_shapes.specs.declared.subtags.Bytes.{Bytes}
-use Rattle.row_shapes.specs.declared.subtags.Bytes.TheVariants.{Small, Capital, Digit, Word}
 use Rattle.row_shapes.specs.declared.lsr.Three.{Three}
 use Rattle.row_shapes.specs.declared.lsr.Front.{Front}
-
--- the bytes of a kind
-unfoldable pub allowed : Bytes → ℕ → Bool
-allowed Small b = small b
-allowed Capital b = capital b
-allowed Digit b = digit b
-allowed Word b = small b || digit b
 
 -- a script is 4 letters, the first a capital; a region 2 capitals or 3 digits
 unfoldable pub is_script : Tag → Bool
@@ -62,19 +53,34 @@ unfoldable pub region_tail : List Tag → Bool
 region_tail [] = true
 region_tail (r ∷ ts) = is_region r && no_more ts
 
--- language, perhaps script, perhaps region: whether s is that, and where language and script end
+-- s is language, perhaps script, perhaps region, and language and script end there
 pub record ThreeAt (s : List ℕ) (r : Three) : Type 0 where
-  pub is : r.ok ≡ is_three s
+  pub is : is_three s ≡ true
   pub low : r.language ≤ r.script
   pub high : r.script ≤ length s
-  pub parts : r.ok ≡ true → parse s ≡ three (take r.language s) (between s r.language r.script) (drop (r.script + 1) s)
+  pub parts : parse s ≡ three (take r.language s) (between s r.language r.script) (drop (r.script + 1) s)
 
--- the same three at the front of s: where they end; such a text with nothing behind it, or a byte below `-` as a tab or 0A,
--- is read whole
+-- whether s is that
+abbrev pub ThreeIs : List ℕ → Option Three → Type 0
+ThreeIs s None = is_three s ≡ false
+ThreeIs s (Some r) = ThreeAt s r
+
+-- The same three at the front of s. Such a text with nothing behind it, or a byte below `-` as a tab or 0A, is read whole.
+pub record WholeAt (s : List ℕ) (f : ℕ) : Type 0 where
+  pub room : f ≤ length s
+  pub low : get_or s f 0 < 45
+  pub three : is_three (take f s) ≡ true
+
+-- where they end
 pub record FrontAt (s : List ℕ) (r : Front) : Type 0 where
   pub low : r.language ≤ r.script
   pub mid : r.script ≤ r.end
   pub high : r.end ≤ length s
-  pub is : r.ok ≡ true → is_three (take r.end s) ≡ true
-  pub parts : r.ok ≡ true → parse (take r.end s) ≡ three (take r.language s) (between s r.language r.script) (between s r.script r.end)
-  pub whole : (f : ℕ) → f ≤ length s → get_or s f 0 < 45 → is_three (take f s) ≡ true → (r.ok ≡ true) × (f ≡ r.end)
+  pub is : is_three (take r.end s) ≡ true
+  pub parts : parse (take r.end s) ≡ three (take r.language s) (between s r.language r.script) (between s r.script r.end)
+  pub whole : (f : ℕ) → WholeAt s f → f ≡ r.end
+
+-- whether there are such
+abbrev pub FrontIs : List ℕ → Option Front → Type 0
+FrontIs s None = (f : ℕ) → WholeAt s f → ⊥
+FrontIs s (Some r) = FrontAt s r

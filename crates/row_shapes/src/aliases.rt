@@ -1,114 +1,70 @@
 // The rows of the alias table: a kind, a key and a value.
-ghost use Rattle.std.specs.Prelude.{◌≡◌, false, take};
-ghost use Rattle.standard.specs.Tag.{same};
+ghost use Rattle.std.specs.Prelude.{◌≡◌, Some, take};
 ghost use Rattle.byte_string.specs.Strings.{end_of};
-ghost use Rattle.row_shapes.specs.Rows.{kind_named, language_alias, shape_by, AliasAt, LineAt};
+ghost use Rattle.row_shapes.specs.Rows.{kind_named, language_alias, shape_by, AliasIs, LineIs};
 
 use crate::Table;
 use crate::lsr::three_of;
-use crate::pairs::{Line, no_line};
+use crate::pairs::Line;
 use crate::subtags::{is_language, is_region, is_script, is_variant};
 
-// Are the two the same? The lengths first: then no byte of a text that is known asks for the length again.
-fn equals(a: &[u8], b: &[u8]) -> bool
-    ensures { result ≡ same a.now b.now }
-{
-    if a.len() != b.len() {
-        return false;
-    }
-    byte_string::same(a, b)
-}
-
-// The kind of an alias, by its name.
-#[derive(Clone, Copy)]
+// The kind of an alias.
+#[derive(Clone, Copy, PartialEq, Eq)]
 pub enum AliasKind {
     Language,
     Script,
     Region,
     Variant,
-    Unknown,
 }
 
-pub(crate) fn kind_named(name: &[u8]) -> AliasKind
+// The kind of that name, if there is one.
+#[tactic(auto, unfolding(crate::specs::Rows::kind_named))]
+pub(crate) fn kind_named(name: &[u8]) -> Option<AliasKind>
     ensures { result ≡ kind_named name.now }
 {
-    if equals(name, b"language") {
-        return AliasKind::Language;
+    if byte_string::same(name, b"language") {
+        Some(AliasKind::Language)
+    } else if byte_string::same(name, b"script") {
+        Some(AliasKind::Script)
+    } else if byte_string::same(name, b"region") {
+        Some(AliasKind::Region)
+    } else if byte_string::same(name, b"variant") {
+        Some(AliasKind::Variant)
+    } else {
+        None
     }
-    if equals(name, b"script") {
-        return AliasKind::Script;
-    }
-    if equals(name, b"region") {
-        return AliasKind::Region;
-    }
-    if equals(name, b"variant") {
-        return AliasKind::Variant;
-    }
-    AliasKind::Unknown
 }
 
 // A language other than `und`, and language, perhaps script, perhaps region, not of `und`.
+#[tactic(auto, unfolding(crate::specs::Rows::language_alias))]
 fn language_alias(key: &[u8], value: &[u8]) -> bool
     ensures { result ≡ language_alias key.now value.now }
 {
-    if !is_language(key) {
+    if !is_language(key) || byte_string::same(key, b"und") {
         return false;
     }
-    if byte_string::same(key, b"und") {
+    let Some(three) = three_of(value) else {
         return false;
-    }
-    let v = three_of(value);
-    if !v.ok {
-        return false;
-    }
-    let l = v.language;
-    !byte_string::same(&value[..l], b"und")
+    };
+    !byte_string::same(&value[..three.language], b"und")
 }
 
+#[tactic(auto, unfolding(crate::specs::Rows::shape_by))]
 fn alias_shape(kind: AliasKind, key: &[u8], value: &[u8]) -> bool
-    ensures { result ≡ shape_by kind key.now value.now }
+    ensures { result ≡ shape_by (Some kind) key.now value.now }
 {
     match kind {
         AliasKind::Language => language_alias(key, value),
-        AliasKind::Script => {
-            if is_script(key) {
-                return is_script(value);
-            }
-            false
-        }
-        AliasKind::Region => {
-            if is_region(key) {
-                return is_region(value);
-            }
-            false
-        }
-        AliasKind::Variant => {
-            if is_variant(key) {
-                return is_variant(value);
-            }
-            false
-        }
-        AliasKind::Unknown => false,
+        AliasKind::Script => is_script(key) && is_script(value),
+        AliasKind::Region => is_region(key) && is_region(value),
+        AliasKind::Variant => is_variant(key) && is_variant(value),
     }
 }
 
-// Whether a line is an alias row, kind, key and value, and where its key ends.
-#[derive(Clone, Copy)]
-pub struct Fields {
-    pub ok: bool,
-    pub tab: usize,
-}
-
-fn no_fields() -> Fields
-    ensures { result.ok ≡ false }
-{
-    Fields { ok: false, tab: 0 }
-}
-
-// The kind of an alias row, and where its name ends.
+// The kind that an alias row names, if it is one, and where the name ends.
 #[derive(Clone, Copy)]
 pub struct Name {
-    pub kind: AliasKind,
+    pub kind: Option<AliasKind>,
     pub end: usize,
 }
 
@@ -118,7 +74,7 @@ pub fn name_of(line: &[u8]) -> Name
 {
     if table::starts_row(line, b"language") {
         return Name {
-            kind: AliasKind::Language,
+            kind: Some(AliasKind::Language),
             end: 8,
         };
     }
@@ -127,40 +83,35 @@ pub fn name_of(line: &[u8]) -> Name
     Name { kind, end }
 }
 
-// The value goes to the end: no value has a tab.
-fn alias_line(line: &[u8]) -> Fields
-    ensures { AliasAt line.now result }
+// Where the key of an alias row ends: kind, key and value. The value goes to the end: no value has a tab.
+fn alias_line(line: &[u8]) -> Option<usize>
+    ensures { AliasIs line.now result }
 {
-    let n = name_of(line);
-    let kind = n.kind;
-    let a = n.end;
-    if line.len() <= a {
-        return no_fields();
+    let name = name_of(line);
+    let kind = name.kind?;
+    if line.len() <= name.end {
+        return None;
     }
-    let start = a + 1;
+    let start = name.end + 1;
     let tab = byte_string::end_of(line, b'\t', start);
     if line.len() <= tab {
-        return no_fields();
+        return None;
     }
-    let from = tab + 1;
-    let ok = alias_shape(kind, &line[start..tab], &line[from..]);
-    Fields { ok, tab }
+    let value = tab + 1;
+    if alias_shape(kind, &line[start..tab], &line[value..]) {
+        Some(tab)
+    } else {
+        None
+    }
 }
 
-pub(crate) fn alias_row(s: &[u8]) -> Line
-    ensures { LineAt Table.Aliases s.now result }
+pub(crate) fn alias_row(s: &[u8]) -> Option<Line>
+    ensures { LineIs Table.Aliases s.now result }
 {
     let end = byte_string::end_of(s, b'\n', 0);
     if s.len() <= end {
-        return no_line();
+        return None;
     }
-    let f = alias_line(&s[..end]);
-    if !f.ok {
-        return no_line();
-    }
-    Line {
-        ok: true,
-        key: f.tab,
-        end,
-    }
+    let key = alias_line(&s[..end])?;
+    Some(Line { key, end })
 }

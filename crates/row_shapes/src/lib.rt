@@ -10,13 +10,13 @@ ghost use Rattle.std.specs.Prelude.{◌≡◌};
 ghost use Rattle.std.proofs.Math.Option.{none};
 ghost use Rattle.standard.specs.Table.{rows, rows_fault, shape_of};
 ghost use Rattle.table.specs.Search.{below};
-ghost use Rattle.row_shapes.specs.Rows.{LineAt, kind_is, fault_is};
+ghost use Rattle.row_shapes.specs.Rows.{LineIs, kind_is, fault_is};
 
 use crate::aliases::alias_row;
 use crate::pairs::{Line, likely_row, parent_row};
 
 // The three tables.
-#[derive(Clone, Copy)]
+#[derive(Clone, Copy, PartialEq, Eq)]
 pub enum Table {
     Aliases,
     Likely,
@@ -24,8 +24,8 @@ pub enum Table {
 }
 
 // The row of the table at the front of s.
-fn row(s: &[u8], table: Table) -> Line
-    ensures { LineAt table s.now result }
+fn row_at(s: &[u8], table: Table) -> Option<Line>
+    ensures { LineIs table s.now result }
 {
     match table {
         Table::Aliases => alias_row(s),
@@ -38,42 +38,34 @@ fn row(s: &[u8], table: Table) -> Line
 fn rises(a: &[u8], b: &[u8]) -> bool
     ensures { result ≡ below a.now b.now }
 {
-    let o = byte_string::compare(a, b);
-    match o {
-        byte_string::Order::Less => true,
-        byte_string::Order::Equal => false,
-        byte_string::Order::Greater => false,
-    }
+    byte_string::compare(a, b).is_lt()
 }
 
 // What is wrong with the rows, and where the first wrong one starts.
-#[derive(Clone, Copy)]
-pub enum Rows {
-    Good,
+#[derive(Clone, Copy, PartialEq, Eq)]
+pub enum RowFault {
     Shape(usize),
     Order(usize),
 }
 
-// The first row of wrong shape, or not above the one before. The key of the row before is t[p..k].
-pub fn check_rows(t: &[u8], table: Table) -> Rows
+// The first row of wrong shape, or not above the one before.
+pub fn check_rows(t: &[u8], table: Table) -> Result<(), RowFault>
     ensures { fault_is result ≡ rows_fault (shape_of (kind_is table)) none 0 (rows t.now) }
 {
-    let n = t.len();
     let mut i = 0;
-    let mut p = 0;
-    let mut k = 0;
-    while i < n {
-        let r = row(&t[i..], table);
-        if !r.ok {
-            return Rows::Shape(i);
+    let mut before = &t[..0];
+    // a step is as long as its row
+    while i < t.len() {
+        let Some(row) = row_at(&t[i..], table) else {
+            return Err(RowFault::Shape(i));
+        };
+        let end = i + row.key;
+        let key = &t[i..end];
+        if !rises(before, key) {
+            return Err(RowFault::Order(i));
         }
-        let end = i + r.key;
-        if !rises(&t[p..k], &t[i..end]) {
-            return Rows::Order(i);
-        }
-        p = i;
-        k = end;
-        i += r.end + 1;
+        before = key;
+        i += row.end + 1;
     }
-    Rows::Good
+    Ok(())
 }

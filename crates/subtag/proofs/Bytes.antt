@@ -1,16 +1,18 @@
 -- The class of a byte decides the standard's tests of it, and its letter case.
 -- Assumes nothing.
 use mathlib.Core.Path.{◌≡◌, refl, sym, ap, ◌∙◌}
-use mathlib.Core.Bool.{Bool, true, false, not, cond, ◌&&◌, ◌||◌}
-use Prim.Native.Nat.{ℕ, ◌+◌, ◌-◌, ◌≤◌, ◌<◌}
+use mathlib.Core.Bool.{Bool, true, false, not, ◌&&◌, ◌||◌}
+use Prim.Native.Nat.{ℕ, ◌≤◌, ◌<◌}
 use native.Mathlib.Omega.{arith}
 use lib.Dec.{leb}
 use borrow.Author.Tests.{le-leb, lt-leb, leb-true, ne_eqb}
-use Rattle.standard.specs.Grammar.{small, capital, digit, separator, lower_byte, upper_byte}
+use Rattle.standard.specs.Grammar.{small, capital, digit, separator, lower_byte}
 use Rattle.standard.specs.Reading.{clean}
 use Rattle.standard.proofs.General.{bool_cases, and-true}
 use Rattle.subtag.specs.declared.Class.{Class}
 use Rattle.subtag.specs.declared.Class.TheVariants.{Small, Capital, Digit, Separator, Other}
+use Rattle.subtag.specs.contracts.Class.{the_type}
+use denote.Enum.Bare.{sameb}
 use Rattle.subtag.specs.Bytes.{class_of, is_small, is_capital, is_digit, is_separator, is_other, normal_byte}
 
 -- a range test from the order facts of its byte
@@ -95,34 +97,45 @@ foreign-as b = let c = classed b in rw (c.small, c.capital, c.digit, c.separator
     go Separator = refl
     go Other = refl
 
--- Letter case, by the class of the byte.
-abbrev pub lowered_as : Class → ℕ → ℕ
-lowered_as k b = cond (is_capital k) (b + 32) b
+-- what `==` finds of a class
+pub small-class : (k : Class) → sameb the_type k Small ≡ is_small k
+small-class Small = refl
+small-class Capital = refl
+small-class Digit = refl
+small-class Separator = refl
+small-class Other = refl
 
-abbrev pub uppered_as : Class → ℕ → ℕ
-uppered_as k b = cond (is_small k) (b - 32) b
+pub capital-class : (k : Class) → sameb the_type k Capital ≡ is_capital k
+capital-class Small = refl
+capital-class Capital = refl
+capital-class Digit = refl
+capital-class Separator = refl
+capital-class Other = refl
 
-module _ (b : ℕ) {k l : Class} (e : k ≡ class_of b) (f : k ≡ l) where
-  class-is : class_of b ≡ l
-  class-is = sym e ∙ f
+pub digit-class : (k : Class) → sameb the_type k Digit ≡ is_digit k
+digit-class Small = refl
+digit-class Capital = refl
+digit-class Digit = refl
+digit-class Separator = refl
+digit-class Other = refl
 
-  pub lower-as : lowered_as l b ≡ lower_byte b
-  unfolding lower_byte
-  lower-as = rw ((classed b).capital, class-is)
+pub separator-class : (k : Class) → sameb the_type k Separator ≡ is_separator k
+separator-class Small = refl
+separator-class Capital = refl
+separator-class Digit = refl
+separator-class Separator = refl
+separator-class Other = refl
 
-  pub upper-as : uppered_as l b ≡ upper_byte b
-  unfolding upper_byte
-  upper-as = rw ((classed b).small, class-is)
+pub other-class : (k : Class) → sameb the_type k Other ≡ is_other k
+other-class Small = refl
+other-class Capital = refl
+other-class Digit = refl
+other-class Separator = refl
+other-class Other = refl
 
 -- a test that the class decides, by the code's answer for the class
 pub by-class : (b : ℕ) (test : Class → Bool) {k : Class} {r q : Bool} → r ≡ test k → k ≡ class_of b → q ≡ test (class_of b) → r ≡ q
 by-class b test e f g = e ∙ ap test f ∙ sym g
-
-pub capital-high : (b : ℕ) {k : Class} → k ≡ class_of b → k ≡ Capital → b ≤ 90
-capital-high b e f = (capital-in b ((classed b).capital ∙ ap is_capital (sym e ∙ f))).high
-
-pub small_low : (b : ℕ) {k : Class} → k ≡ class_of b → k ≡ Small → 97 ≤ b
-small_low b e f = (small-in b ((classed b).small ∙ ap is_small (sym e ∙ f))).low
 
 pub normalise-sep : (b : ℕ) → separator b ≡ true → normal_byte b ≡ 45
 unfolding normal_byte

@@ -12,7 +12,7 @@ ghost use Rattle.subtag.specs.Subtags.{first_byte, subtag_of};
 ghost use Rattle.subtag.specs.Kinds.{language_from, kind_from, kind_is, keyword_from, field_from};
 
 // What a byte can be.
-#[derive(Clone, Copy)]
+#[derive(Clone, Copy, PartialEq, Eq)]
 pub enum Class {
     Small,
     Capital,
@@ -37,7 +37,25 @@ pub fn class_of(b: u8) -> Class
 pub fn is_separator(b: u8) -> bool
     ensures { result ≡ separator b }
 {
-    separates(class_of(b))
+    class_of(b) == Class::Separator
+}
+
+pub fn is_small(b: u8) -> bool
+    ensures { result ≡ small b }
+{
+    class_of(b) == Class::Small
+}
+
+pub fn is_capital(b: u8) -> bool
+    ensures { result ≡ capital b }
+{
+    class_of(b) == Class::Capital
+}
+
+pub fn is_digit(b: u8) -> bool
+    ensures { result ≡ digitByte b }
+{
+    class_of(b) == Class::Digit
 }
 
 pub fn lower(b: u8) -> u8
@@ -51,26 +69,13 @@ fn lowered(k: Class, b: u8) -> u8
     requires { k ≡ class_of b }
     ensures { result ≡ lower_byte b }
 {
-    match k {
-        Class::Small => b,
-        Class::Capital => b + 32,
-        Class::Digit => b,
-        Class::Separator => b,
-        Class::Other => b,
-    }
+    if k == Class::Capital { b + 32 } else { b }
 }
 
 pub(crate) fn upper(b: u8) -> u8
     ensures { result ≡ upper_byte b }
 {
-    let k = class_of(b);
-    match k {
-        Class::Small => b - 32,
-        Class::Capital => b,
-        Class::Digit => b,
-        Class::Separator => b,
-        Class::Other => b,
-    }
+    if is_small(b) { b - 32 } else { b }
 }
 
 // In lower case; a separator as '-'.
@@ -78,74 +83,10 @@ pub(crate) fn normalise(b: u8) -> u8
     ensures { result ≡ normal_byte b }
 {
     let k = class_of(b);
-    if separates(k) {
-        return b'-';
-    }
-    lowered(k, b)
-}
-
-// Does the class part two subtags?
-fn separates(k: Class) -> bool
-    ensures { result ≡ is_separator k }
-{
-    match k {
-        Class::Small => false,
-        Class::Capital => false,
-        Class::Digit => false,
-        Class::Separator => true,
-        Class::Other => false,
-    }
-}
-
-// Is it the class of small letters?
-fn small_class(k: Class) -> bool
-    ensures { result ≡ is_small k }
-{
-    match k {
-        Class::Small => true,
-        Class::Capital => false,
-        Class::Digit => false,
-        Class::Separator => false,
-        Class::Other => false,
-    }
-}
-
-// Of capitals?
-fn capital_class(k: Class) -> bool
-    ensures { result ≡ is_capital k }
-{
-    match k {
-        Class::Small => false,
-        Class::Capital => true,
-        Class::Digit => false,
-        Class::Separator => false,
-        Class::Other => false,
-    }
-}
-
-// Of digits?
-fn digit_class(k: Class) -> bool
-    ensures { result ≡ is_digit k }
-{
-    match k {
-        Class::Small => false,
-        Class::Capital => false,
-        Class::Digit => true,
-        Class::Separator => false,
-        Class::Other => false,
-    }
-}
-
-// Of what can stand in no identifier?
-pub fn other_class(k: Class) -> bool
-    ensures { result ≡ is_other k }
-{
-    match k {
-        Class::Small => false,
-        Class::Capital => false,
-        Class::Digit => false,
-        Class::Separator => false,
-        Class::Other => true,
+    if k == Class::Separator {
+        b'-'
+    } else {
+        lowered(k, b)
     }
 }
 
@@ -153,32 +94,14 @@ pub fn other_class(k: Class) -> bool
 fn letter(k: Class) -> usize
     ensures { result ≡ letter_of k }
 {
-    match k {
-        Class::Small => 1,
-        Class::Capital => 1,
-        Class::Digit => 0,
-        Class::Separator => 0,
-        Class::Other => 0,
-    }
+    usize::from(matches!(k, Class::Small | Class::Capital))
 }
 
 // 1 for a digit.
 fn digit(k: Class) -> usize
     ensures { result ≡ digit_of k }
 {
-    match k {
-        Class::Small => 0,
-        Class::Capital => 0,
-        Class::Digit => 1,
-        Class::Separator => 0,
-        Class::Other => 0,
-    }
-}
-
-fn wide(b: u8) -> u64
-    ensures { (result ≡ b) × (result < 256) }
-{
-    b as u64
+    usize::from(k == Class::Digit)
 }
 
 // A subtag: its length; how many of its bytes are letters and digits; its first byte in lower case, 0 where it has none;
@@ -197,15 +120,10 @@ pub struct Subtag {
 fn first_of(rest: &[u8]) -> u8
     ensures { result ≡ first_byte (head_tag (split rest.now)) }
 {
-    if rest.len() == 0 {
-        return 0;
+    match rest {
+        [b, ..] if !is_separator(*b) => lower(*b),
+        _ => 0,
     }
-    let b = rest[0];
-    let k = class_of(b);
-    if separates(k) {
-        return 0;
-    }
-    lowered(k, b)
 }
 
 // The subtag at the front of rest, up to the next separator or the end.
@@ -216,24 +134,17 @@ pub fn scan(rest: &[u8]) -> Subtag
     let mut letters: usize = 0;
     let mut digits: usize = 0;
     let mut key: u64 = 0;
-    let mut weight: u64 = 72057594037927936;
+    let mut weight: u64 = 1 << 56;
     let mut len: usize = 0;
-    while len < rest.len() {
-        let b = rest[len];
+    for &b in rest {
         let k = class_of(b);
-        if separates(k) {
-            return Subtag {
-                len,
-                letters,
-                digits,
-                first,
-                key,
-            };
+        if k == Class::Separator {
+            break;
         }
         letters += letter(k);
         digits += digit(k);
-        key += wide(lowered(k, b)) * weight;
-        weight = weight / 256;
+        key += u64::from(lowered(k, b)) * weight;
+        weight /= 256;
         len += 1;
     }
     Subtag {
@@ -249,10 +160,7 @@ pub fn scan(rest: &[u8]) -> Subtag
 pub fn recase(b: u8, i: usize, count: usize) -> u8
     ensures { result ≡ cased_byte i count b }
 {
-    if i < count {
-        return upper(b);
-    }
-    b
+    if i < count { upper(b) } else { b }
 }
 
 // Writes src in lower case but for its first count bytes, which become capitals: one for title case, all for upper case.
@@ -260,12 +168,10 @@ pub fn put_cased(src: &[u8], count: usize, out: &mut [u8], at: usize) -> usize
     requires { at + length src.now ≤ length out.old }
     ensures { (result ≡ at + length src.now) × (out.new ≡ sets out.old at (cased count (map normal_byte src.now))) }
 {
-    let mut i = 0;
-    while i < src.len() {
+    for i in 0..src.len() {
         out[at + i] = recase(normalise(src[i]), i, count);
-        i += 1;
     }
-    at + i
+    at + src.len()
 }
 
 // Writes src at the place at, in lower case and with the separator '-', and gives the next place.
@@ -277,7 +183,7 @@ pub fn put_normalised(src: &[u8], out: &mut [u8], at: usize) -> usize
 }
 
 // What a subtag after the language can be; no two at once.
-#[derive(Clone, Copy)]
+#[derive(Clone, Copy, PartialEq, Eq)]
 pub enum Kind {
     Script,
     Region,
@@ -285,107 +191,37 @@ pub enum Kind {
     Neither,
 }
 
-pub fn is_small(b: u8) -> bool
-    ensures { result ≡ small b }
-{
-    small_class(class_of(b))
-}
-
-pub fn is_capital(b: u8) -> bool
-    ensures { result ≡ capital b }
-{
-    capital_class(class_of(b))
-}
-
-pub fn is_digit(b: u8) -> bool
-    ensures { result ≡ digitByte b }
-{
-    digit_class(class_of(b))
-}
-
 // A language: 2, 3 or 5 to 8 letters.
 pub fn is_language(t: Subtag) -> bool
     ensures { result ≡ language_from t }
 {
-    let len = t.len;
-    if len < 2 {
-        return false;
-    }
-    if len == 4 {
-        return false;
-    }
-    if 8 < len {
-        return false;
-    }
-    t.letters == len
+    matches!(t.len, 2 | 3 | 5..=8) && t.letters == t.len
 }
 
 // A script is 4 letters, a region 2 letters or 3 digits, a variant 5 to 8 bytes or 4 that begin with a digit.
 pub fn kind_of(t: Subtag) -> Kind
     ensures { kind_is result ≡ kind_from t }
 {
-    let len = t.len;
-    let letters = t.letters;
-    let digits = t.digits;
-    if len == 2 {
-        if letters == 2 {
-            return Kind::Region;
-        }
-        return Kind::Neither;
+    match t.len {
+        2 if t.letters == 2 => Kind::Region,
+        3 if t.digits == 3 => Kind::Region,
+        4 if t.letters == 4 => Kind::Script,
+        4 if is_digit(t.first) => Kind::Variant,
+        5..=8 => Kind::Variant,
+        _ => Kind::Neither,
     }
-    if len == 3 {
-        if digits == 3 {
-            return Kind::Region;
-        }
-        return Kind::Neither;
-    }
-    if len == 4 {
-        return of_four(t);
-    }
-    if len < 5 {
-        return Kind::Neither;
-    }
-    if 8 < len {
-        return Kind::Neither;
-    }
-    Kind::Variant
-}
-
-fn of_four(t: Subtag) -> Kind
-    requires { t.len ≡ 4 }
-    ensures { kind_is result ≡ kind_from t }
-{
-    if t.letters == 4 {
-        return Kind::Script;
-    }
-    if is_digit(t.first) {
-        return Kind::Variant;
-    }
-    Kind::Neither
 }
 
 // The key of a keyword: a letter or digit, then a letter.
 pub fn is_keyword_key(t: Subtag) -> bool
     ensures { result ≡ keyword_from t }
 {
-    if t.len != 2 {
-        return false;
-    }
-    if is_small(t.first) {
-        return t.letters == 2;
-    }
-    t.letters == 1
+    t.len == 2 && t.letters == if is_small(t.first) { 2 } else { 1 }
 }
 
 // The key of a field: a letter, then a digit.
 pub fn is_field_key(t: Subtag) -> bool
     ensures { result ≡ field_from t }
 {
-    if t.len != 2 {
-        return false;
-    }
-    if is_small(t.first) {
-        return t.digits == 1;
-    }
-    false
+    t.len == 2 && is_small(t.first) && t.digits == 1
 }

@@ -15,12 +15,15 @@ use borrow.Author.Tests.{eq-eqb, ne_eqb, lt-ltb, le-ltb, eqb-true}
 use Rattle.standard.specs.Table.{Found as Located, located}
 use Rattle.standard.proofs.General.{le-or-lt}
 use Rattle.byte_string.specs.Strings.{end_of}
-use Rattle.table.specs.Lines.{starts, no_row, row_at}
+use Rattle.std.specs.Prelude.{Option, Some, None}
+use Rattle.std.specs.Option.{is_some}
+use Rattle.std.specs.declared.ops.Range.{Range}
+use Rattle.table.specs.Lines.{starts, found_is, no_row, row_at, row_in}
 use Rattle.table.specs.Search.{Opens, row_from}
-use Rattle.table.specs.Hints.{slot_step, slot_from, slot_of, place_of, hint_at, Blank, RowAt, OpensIs, Seen, Right, Leads, Hinted, hint_of, hints_past, start_past, slot_past}
+use Rattle.table.specs.Hints.{slot_step, slot_from, slot_of, place_of, hint_at, Blank, RowAt, OpensIs, Seen, Right, Leads, Hinted, hint_of}
 use Rattle.byte_string.proofs.Ends.{end_ge, end-le}
 use Rattle.table.proofs.Lines.{row-start, row-past, row-miss, row-hit, row_room}
-use Rattle.table.proofs.Searches.{Cmp, lt, eq, gt, cmp, clash, opens-after, opens_before, end-in, end-byte, end-opens}
+use Rattle.table.proofs.Searches.{Cmp, lt, eq, gt, cmp, clash, end-in, end-byte, end-opens}
 
 -- The first row with the key from the line at i on, if there is one.
 pub record First (t key : List ℕ) (i q : ℕ) : Type 0 where
@@ -109,34 +112,27 @@ module _ (t key : List ℕ) where
             → row_at (q + length key + 1) (end_of 10 t q - (q + length key + 1)) ≡ row_at (v - 32768 + length key + 1) (end_of 10 t (v - 32768) - (v - 32768 + length key + 1))
         same q y z = let y : q ≡ v - 32768 = omega arith in ap (λ (p : ℕ). row_at (p + length key + 1) (end_of 10 t p - (p + length key + 1))) y
 
--- Whether a line starts at p.
-module _ (t : List ℕ) (p : ℕ) where
-  pub opens-past : length t ≤ p → OpensIs t p false
-  opens-past h = record { yes = λ e. absurd (clash e refl); no = λ e o g. omega arith }
-
-  pub opens-front : p < length t → p ≡ 0 → OpensIs t p true
-  opens-front h e = record { yes = λ y. (rw e, h); no = λ n o g. clash refl n }
-
-  pub opens_at : p < length t → (p ≡ 0 → ⊥) → OpensIs t p (eqb (get_or t (p - 1) 0) 10)
-  opens_at h d = record {
-    yes = λ y. (opens-after t p (omega arith) (eqb-true (get_or t (p - 1) 0) 10 y), h);
-    no = λ n o g. clash (eq-eqb (get_or t (p - 1) 0) 10 (opens_before t p (omega arith) o)) n;
-  }
+-- an answer with a value is a yes
+pub some-found : (f : Option (Range ℕ)) → is_some f ≡ true → (found_is f).found ≡ true
+some-found None e = e
+some-found (Some r) e = refl
 
 -- The answers on the line at p.
 module _ (t key : List ℕ) (p : ℕ) where
   pub seen_none : OpensIs t p false → Seen t key p no_row
   seen_none o = record { yes = λ e. absurd (clash e refl); no = λ e. (λ r. o.no refl r.opens r.inside, refl) }
 
-  module _ (e : ℕ) (q : e ≡ end_of 10 t p) where
-    pub seen-miss : starts (key ++ (9 ∷ [])) (take (e - p) (drop p t)) ≡ false → Seen t key p no_row
-    seen-miss s = record { yes = λ e. absurd (clash e refl); no = λ e. (λ r. clash r.begins (rw q at s), refl) }
-
-    pub seen-hit : OpensIs t p true → starts (key ++ (9 ∷ [])) (take (e - p) (drop p t)) ≡ true → Seen t key p (row_at (p + length key + 1) (e - (p + length key + 1)))
-    seen-hit o s = record {
-      yes = λ y. (record { opens = (o.yes refl).0; inside = (o.yes refl).1; begins = rw q at s }, ap (λ (z : ℕ). row_at (p + length key + 1) (z - (p + length key + 1))) q);
-      no = λ n. absurd (clash refl n);
-    }
+  -- the answer on the line that starts there
+  pub seen-line : (e : ℕ) → OpensIs t p true → e ≡ end_of 10 t p → (f : Located) → f ≡ row_in t key p e → Seen t key p f
+  unfolding row_in
+  seen-line e o q f r = rw r (go (starts (key ++ (9 ∷ [])) (take (e - p) (drop p t))) refl)
+    where
+      go : (b : Bool) → starts (key ++ (9 ∷ [])) (take (e - p) (drop p t)) ≡ b → Seen t key p (cond b (row_at (p + length key + 1) (e - (p + length key + 1))) no_row)
+      go true s = record {
+        yes = λ y. (record { opens = (o.yes refl).0; inside = (o.yes refl).1; begins = rw q at s }, ap (λ (z : ℕ). row_at (p + length key + 1) (z - (p + length key + 1))) q);
+        no = λ n. absurd (clash refl n);
+      }
+      go false s = record { yes = λ e. absurd (clash e refl); no = λ e. (λ r. clash r.begins (rw q at s), refl) }
 
 -- Filling. The loop over the bytes of a slot:
 module _ (h : ℕ) (key : List ℕ) (i : ℕ) where
@@ -205,7 +201,7 @@ get_or-in (x ∷ l) (suc i) a b h = get_or-in l i a b (le_of_suc-le-suc h)
 -- a row's tab and key by index
 module _ (t key : List ℕ) (p : ℕ) (r : RowAt t key p) where
   row_fits : p + length key + 1 ≤ end_of 10 t p
-  row_fits = row_room t key p (end_of 10 t p) refl r.inside r.begins
+  row_fits = row_room t key p (end_of 10 t p) (end_ge 10 t p (let i = r.inside in omega arith)) (end-le 10 t p) r.begins
 
   row-tab : get_or t (p + length key) 0 ≡ 9
   row-tab = sym (get_d_take (end_of 10 t p - p) (length key) (drop p t) (omega (arith, row_fits)) ∙ get_d_drop p (length key) t) ∙ starts-tab key (take (end_of 10 t p - p) (drop p t)) r.begins
@@ -416,46 +412,16 @@ module _ (t hints : List ℕ) (start slot i : ℕ) (f : Filled t hints start slo
     rows = stay_rows n;
   }
 
-  fill_step : (b : ℕ) → b ≡ get_or t i 0 → Filled t (hints_past hints at start b) (start_past start b (i + 1)) (slot_past slot b) (i + 1)
-  unfolding hints_past start_past slot_past
-  fill_step b e = rw e (go (cmp (get_or t i 0) 10) (cmp (get_or t i 0) 9))
-    where
-      other : (get_or t i 0 ≡ 10 → ⊥) → (get_or t i 0 ≡ 9 → ⊥)
-          → Filled t (cond (eqb (get_or t i 0) 9) (set hints at (hint_of (get_or hints at 0) start)) hints) (cond (eqb (get_or t i 0) 10) (i + 1) start) (cond (eqb (get_or t i 0) 10) 0 (slot_step slot (get_or t i 0))) (i + 1)
-      other d n = rw (ne_eqb (get_or t i 0) 9 n, ne_eqb (get_or t i 0) 10 d) (step_other d n)
+  -- the three, by what the code leaves
+  module _ (hints₁ : List ℕ) (start₁ slot₁ : ℕ) where
+    pub past-line : get_or t i 0 ≡ 10 → hints₁ ≡ hints → start₁ ≡ i + 1 → slot₁ ≡ 0 → Filled t hints₁ start₁ slot₁ (i + 1)
+    past-line e x y z = rw (x, y, z) (step_line e)
 
-      go : Cmp (get_or t i 0) 10 → Cmp (get_or t i 0) 9
-          → Filled t (cond (eqb (get_or t i 0) 9) (set hints at (hint_of (get_or hints at 0) start)) hints) (cond (eqb (get_or t i 0) 10) (i + 1) start) (cond (eqb (get_or t i 0) 10) 0 (slot_step slot (get_or t i 0))) (i + 1)
-      go (eq k) m = rw (ne_eqb (get_or t i 0) 9 (λ e. omega arith), eq-eqb (get_or t i 0) 10 k) (step_line k)
-      go (lt k) (eq m) = rw (eq-eqb (get_or t i 0) 9 m, ne_eqb (get_or t i 0) 10 (λ e. omega arith)) (step-tab m)
-      go (lt k) (lt m) = other (λ e. omega arith) (λ e. omega arith)
-      go (lt k) (gt m) = absurd (omega arith)
-      go (gt k) (eq m) = absurd (omega arith)
-      go (gt k) (lt m) = absurd (omega arith)
-      go (gt k) (gt m) = other (λ e. omega arith) (λ e. omega arith)
+    pub past-tab : get_or t i 0 ≡ 9 → hints₁ ≡ set hints at (hint_of (get_or hints at 0) start) → start₁ ≡ start → slot₁ ≡ slot_step slot (get_or t i 0) → Filled t hints₁ start₁ slot₁ (i + 1)
+    past-tab e x y z = rw (x, y, z) (step-tab e)
 
-  pub fill-next : (b : ℕ) (hints₁ : List ℕ) (start₁ slot₁ : ℕ) → b ≡ get_or t i 0 → hints₁ ≡ hints_past hints at start b → start₁ ≡ start_past start b (i + 1) → slot₁ ≡ slot_past slot b
-      → Filled t hints₁ start₁ slot₁ (i + 1)
-  fill-next b hints₁ start₁ slot₁ e h₁ s₁ m₁ = rw (h₁, s₁, m₁) (fill_step b e)
-
-  -- a byte that ends neither a key nor a line
-  pub fill-quick : (b slot₁ : ℕ) → b ≡ get_or t i 0 → 10 < b → slot₁ ≡ slot_step slot b → Filled t hints start slot₁ (i + 1)
-  unfolding hints_past start_past slot_past
-  fill-quick b slot₁ e h m =
-      let n = ne_eqb b 10 (λ q. omega arith) in
-      fill-next b hints start slot₁ e (rw (ne_eqb b 9 (λ q. omega arith))) (rw n) (rw n m)
-
-pub mark-tab : (hints : List ℕ) (at place p b r : ℕ) → b ≡ 9 → at ≡ place → r ≡ hint_of (get_or hints at 0) p → set hints at r ≡ hints_past hints place p b
-unfolding hints_past
-mark-tab hints at place p b r e q f = rw (eq-eqb b 9 e, ← q, f)
-
-pub past-length : (hints : List ℕ) (at p b : ℕ) → length (hints_past hints at p b) ≡ length hints
-unfolding hints_past
-past-length hints at p b = go (eqb b 9)
-  where
-    go : (x : Bool) → length (cond x (set hints at (hint_of (get_or hints at 0) p)) hints) ≡ length hints
-    go true = length-set hints at (hint_of (get_or hints at 0) p)
-    go false = refl
+    pub past-other : (get_or t i 0 ≡ 10 → ⊥) → (get_or t i 0 ≡ 9 → ⊥) → hints₁ ≡ hints → start₁ ≡ start → slot₁ ≡ slot_step slot (get_or t i 0) → Filled t hints₁ start₁ slot₁ (i + 1)
+    past-other d n x y z = rw (x, y, z) (step_other d n)
 
 -- the answers by cases
 module _ (old p : ℕ) where

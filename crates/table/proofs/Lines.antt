@@ -3,22 +3,25 @@
 use mathlib.Core.Path.{◌≡◌, refl, sym, ap, ◌∙◌}
 use mathlib.Core.Bool.{Bool, true, false, cond}
 use mathlib.Core.List.{List, [], ◌∷◌, ◌++◌}
-use mathlib.Core.Option.{Option, none, some}
+use mathlib.Core.Option.{Option as Maybe, none, some}
 use mathlib.Core.Logic.{⊎_elim}
 use Rattle.standard.proofs.General.{le-or-lt, clash}
 use Prim.Native.Nat.{ℕ, zero, suc, ◌+◌, ◌-◌, ◌≤◌, ◌<◌, zero-le, suc-le-suc}
-use native.Mathlib.Nat.{le_of_suc-le-suc, not-suc-le-zero, sub-zero, suc-sub-suc, le_antisymm, zero-sub}
+use native.Mathlib.Nat.{le_of_suc-le-suc, not-suc-le-zero, sub-zero, suc-sub-suc, zero-sub}
 use native.Mathlib.Numerals.{add-one}
 use native.Mathlib.Omega.{arith}
 use lib.Dec.{eqb}
+use lib.Pointwise.{pointwise}
 use lib.ListN.{length, take, drop, get_or, length-append, length-take, length-drop, drop_of_length-le}
-use lib.Seq.{drop-cons, drop-drop, drop-length, take-nil}
-use borrow.Author.Tests.{eq-eqb, ne_eqb}
+use lib.Seq.{drop-cons, drop-drop, take-nil}
+use borrow.Author.Tests.{ne_eqb, eq-eqb}
+use Rattle.std.specs.Prelude.{nat_eq, ◌&&◌, Option, Some, None}
+use Rattle.std.proofs.lemmas.Bool.Decides.{nat_tests}
+use Rattle.std.specs.declared.ops.Range.{Range}
 use Rattle.standard.specs.Tag.{Tag, onto}
 use Rattle.standard.specs.Table.{Found as Located, pieces, after, rows, lookup, located_from, located}
-use Rattle.table.specs.declared.Found.{Found}
 use Rattle.byte_string.specs.Strings.{end_of}
-use Rattle.table.specs.Lines.{lines, starts, found_is, no_row, row_at, value_of, value_if, value_or, is_found}
+use Rattle.table.specs.Lines.{lines, starts, found_is, no_row, row_at, row_in, value_of, value_if, value_or, is_found}
 use Rattle.table.specs.Search.{row_from}
 use Rattle.byte_string.proofs.Ends.{end_ge, ends}
 use Rattle.standard.proofs.Table.{pieces-some}
@@ -69,30 +72,36 @@ starts-long (x ∷ p) (y ∷ l) e = suc-le-suc (starts-long p l (inner (eqb x y)
     inner false true e = refl
     inner false false e = e
 
--- a front that is compared byte by byte, at i
-starts-at' : (p q l : List ℕ) (i : ℕ) → i < length p → i < length l
-    → starts (drop i p ++ q) (drop i l) ≡ cond (eqb (get_or p i 0) (get_or l i 0)) (starts (drop (suc i) p ++ q) (drop (suc i) l)) false
+-- a line that begins with the key, as std's slices have it, and what is left of it
+equal-step : (x y : ℕ) (b c : Bool) → cond (eqb x y) (cond b c false) false ≡ cond (nat_eq y x && b) c false
+equal-step x y b c = grind (arith, nat_tests)
+
+pub starts-parts : (key q l : List ℕ) → starts (key ++ q) l ≡ cond (pointwise nat_eq (take (length key) l) key) (starts q (drop (length key) l)) false
 unfolding starts
-starts-at' p q l i h k = rw (drop-cons p i 0 h, drop-cons l i 0 k)
+starts-parts [] q l = refl
+starts-parts (x ∷ key) q [] = refl
+starts-parts (x ∷ key) q (y ∷ l) =
+    ap (λ (b : Bool). cond (eqb x y) b false) (starts-parts key q l) ∙ equal-step x y (pointwise nat_eq (take (length key) l) key) (starts q (drop (length key) l))
 
-pub starts-same : (p q l : List ℕ) (i : ℕ) → i < length p → i < length l → get_or p i 0 ≡ get_or l i 0
-    → starts (drop i p ++ q) (drop i l) ≡ starts (drop (i + 1) p ++ q) (drop (i + 1) l)
-starts-same p q l i h k e = rw (starts-at' p q l i h k, eq-eqb _ _ e, add-one)
+-- a line of some length, by the byte behind as many as the key has
+module _ (key l : List ℕ) where
+  pub key-short : length l ≤ length key → false ≡ starts (key ++ (9 ∷ [])) l
+  key-short h = sym (starts-short (key ++ (9 ∷ [])) l (simp length-append (omega arith)))
 
-pub starts_other : (p q l : List ℕ) (i : ℕ) → i < length p → i < length l → (get_or p i 0 ≡ get_or l i 0 → ⊥)
-    → starts (drop i p ++ q) (drop i l) ≡ false
-starts_other p q l i h k e = rw (starts-at' p q l i h k, ne_eqb _ _ e)
+  module _ (h : length key < length l) where
+    tab-behind : starts (9 ∷ []) (drop (length key) l) ≡ cond (eqb 9 (get_or l (length key) 0)) true false
+    unfolding starts
+    tab-behind = rw (drop-cons l (length key) 0 h)
 
--- after all of p, one byte is left to compare
-pub starts-last : (p l : List ℕ) (y i : ℕ) → i ≤ length p → length p ≤ i → length p < length l
-    → starts (drop i p ++ (y ∷ [])) (drop i l) ≡ eqb y (get_or l (length p) 0)
-unfolding starts
-starts-last p l y i g h k =
-    rw (le_antisymm g h, drop-length p, drop-cons l (length p) 0 k) (bool (eqb y (get_or l (length p) 0)))
-  where
-    bool : (b : Bool) → cond b true false ≡ b
-    bool true = refl
-    bool false = refl
+    pub key-other : (get_or l (length key) 0 ≡ 9 → ⊥) → false ≡ starts (key ++ (9 ∷ [])) l
+    key-other n = sym (starts-parts key (9 ∷ []) l ∙ rw (tab-behind, ne_eqb 9 (get_or l (length key) 0) (λ e. n (sym e))) (cond_same (pointwise nat_eq (take (length key) l) key) false))
+
+    pub key-there : get_or l (length key) 0 ≡ 9 → pointwise nat_eq (take (length key) l) key ≡ starts (key ++ (9 ∷ [])) l
+    key-there e = sym (starts-parts key (9 ∷ []) l ∙ rw (tab-behind, eq-eqb 9 (get_or l (length key) 0) (sym e)) (itself (pointwise nat_eq (take (length key) l) key)))
+      where
+        itself : (b : Bool) → cond b true false ≡ b
+        itself true = refl
+        itself false = refl
 
 -- The standard's lookup, line by line.
 pub after-starts : (p l : List ℕ) → after p l ≡ cond (starts p l) (some (drop (length p) l)) none
@@ -161,19 +170,37 @@ pub row-past : (t key : List ℕ) (i : ℕ) → length t ≤ i → row_from t ke
 unfolding row_from lines located_from
 row-past t key i h = rw (drop_of_length-le t h)
 
+line-length : (t : List ℕ) (i e : ℕ) → i ≤ e → e ≤ length t → length (take (e - i) (drop i t)) ≡ e - i
+line-length t i e g h = simp (length-take, length-drop) (omega arith)
+
+-- a line that begins with the key and a tab has room for both
+pub row_room : (t key : List ℕ) (i e : ℕ) → i ≤ e → e ≤ length t → starts (key ++ (9 ∷ [])) (take (e - i) (drop i t)) ≡ true → i + length key + 1 ≤ e
+row_room t key i e g h s =
+    let long = starts-long (key ++ (9 ∷ [])) (take (e - i) (drop i t)) s in
+    let n = line-length t i e g h in
+    omega (arith, simp length-append at long)
+
+-- the value's place on the line from i to e
+pub in-row : (t key : List ℕ) (i e : ℕ) (b : Bool) → i ≤ e → e ≤ length t → b ≡ starts (key ++ (9 ∷ [])) (take (e - i) (drop i t)) → b ≡ true
+    → (row_at (i + length key + 1) (e - (i + length key + 1)) ≡ row_in t key i e) × ((i + length key + 1 ≤ e) × (e ≤ length t))
+unfolding row_in
+in-row t key i e b g h s f = let z = sym s ∙ f in (rw z, (row_room t key i e g h z, h))
+
+pub no-row : (t key : List ℕ) (i e : ℕ) (b : Bool) → b ≡ starts (key ++ (9 ∷ [])) (take (e - i) (drop i t)) → b ≡ false → no_row ≡ row_in t key i e
+unfolding row_in
+no-row t key i e b s f = rw (sym s ∙ f)
+
 -- the line at i, up to e, and the answer where it begins with the key and a tab
 module _ (t key : List ℕ) (i e : ℕ) (q : e ≡ end_of 10 t i) (h : i < length t) where
-  line-length : length (take (e - i) (drop i t)) ≡ e - i
-  line-length = let b = ends 10 t i e q (omega arith) in simp (length-take, length-drop) (omega arith)
-
   row-at : row_from t key i ≡ cond (starts (key ++ (9 ∷ [])) (take (e - i) (drop i t))) (row_at (i + length key + 1) (e - (i + length key + 1))) (row_from t key (e + 1))
   unfolding row_from
   row-at =
       let b = ends 10 t i e q (omega arith) in
       let n = length-append key (9 ∷ []) in
-      let l : length (drop (length (key ++ (9 ∷ []))) (take (e - i) (drop i t))) ≡ e - (i + length key + 1) = length-drop (length (key ++ (9 ∷ []))) (take (e - i) (drop i t)) ∙ omega (arith, line-length) in
+      let l : length (drop (length (key ++ (9 ∷ []))) (take (e - i) (drop i t))) ≡ e - (i + length key + 1) = length-drop (length (key ++ (9 ∷ []))) (take (e - i) (drop i t)) ∙ omega (arith, line-length t i e b.low b.high) in
       let m : i + suc (length key) ≡ i + length key + 1 = omega arith in
-      let z : i + suc (length (take (e - i) (drop i t))) ≡ e + 1 = omega (arith, line-length) in
+      let w = line-length t i e b.low b.high in
+      let z : i + suc (length (take (e - i) (drop i t))) ≡ e + 1 = omega arith in
       let a : lines (drop i t) ≡ take (e - i) (drop i t) ∷ lines (drop (e + 1) t) = rw q (lines_at t i h) in
       ap (λ (ls : List Tag). located_from i ls key) a ∙ located-cons i (take (e - i) (drop i t)) (lines (drop (e + 1) t)) key ∙ rw (m, l, z)
 
@@ -183,21 +210,22 @@ module _ (t key : List ℕ) (i e : ℕ) (q : e ≡ end_of 10 t i) (h : i < lengt
   pub row-hit : starts (key ++ (9 ∷ [])) (take (e - i) (drop i t)) ≡ true → row_from t key i ≡ row_at (i + length key + 1) (e - (i + length key + 1))
   row-hit s = row-at ∙ rw s
 
-  -- a row that begins with the key and a tab has room for both
-  pub row_room : starts (key ++ (9 ∷ [])) (take (e - i) (drop i t)) ≡ true → i + length key + 1 ≤ e
-  row_room s =
-      let long = starts-long (key ++ (9 ∷ [])) (take (e - i) (drop i t)) s in
-      let b = ends 10 t i e q (omega arith) in
-      omega (arith, simp length-append at long, line-length)
+  -- the answer from the line on, by the line's own
+  pub row-own : (f : Option (Range ℕ)) (r : Range ℕ) → found_is f ≡ row_in t key i e → f ≡ Some r → row_from t key i ≡ found_is (Some r)
+  unfolding row_in
+  row-own f r g k = go (starts (key ++ (9 ∷ [])) (take (e - i) (drop i t))) refl (ap found_is (sym k) ∙ g)
+    where
+      go : (b : Bool) → starts (key ++ (9 ∷ [])) (take (e - i) (drop i t)) ≡ b → found_is (Some r) ≡ cond b (row_at (i + length key + 1) (e - (i + length key + 1))) no_row → row_from t key i ≡ found_is (Some r)
+      go true s w = row-hit s ∙ sym w
+      go false s w = clash {b = true} refl (ap (λ (x : Located). x.found) w)
 
--- the part that is cut out at an answer's place
-pub cut-value : (t : List ℕ) (f : Found) (o : Located) → found_is f ≡ o → take (f.start + f.len - f.start) (drop f.start t) ≡ value_of t o
-cut-value t f o e =
-    let z : f.start + f.len - f.start ≡ f.len = omega arith in
-    ap (λ (n : ℕ). take n (drop f.start t)) z ∙ ap (value_of t) e
-
-pub cut-found : (f : Found) (o : Located) → found_is f ≡ o → f.found ≡ o.found
-cut-found f o e = ap (λ (x : Located). x.found) e
+  pub row-other : (f : Option (Range ℕ)) → found_is f ≡ row_in t key i e → f ≡ None → row_from t key i ≡ row_from t key (e + 1)
+  unfolding row_in
+  row-other f g k = go (starts (key ++ (9 ∷ [])) (take (e - i) (drop i t))) refl (ap found_is (sym k) ∙ g)
+    where
+      go : (b : Bool) → starts (key ++ (9 ∷ [])) (take (e - i) (drop i t)) ≡ b → no_row ≡ cond b (row_at (i + length key + 1) (e - (i + length key + 1))) no_row → row_from t key i ≡ row_from t key (e + 1)
+      go true s w = clash {b = true} refl (sym (ap (λ (x : Located). x.found) w))
+      go false s w = row-miss s
 
 -- The standard's lookup gives what stands at the answer's place.
 lookup-cons : (l : Tag) (ls : List Tag) (key : List ℕ) → lookup (l ∷ ls) key ≡ cond (starts (key ++ (9 ∷ [])) l) (some (drop (length (key ++ (9 ∷ []))) l)) (lookup ls key)
@@ -266,7 +294,7 @@ unfolding located_from
 none-empty at [] k e = refl
 none-empty at (l ∷ ls) k e = go (after (k ++ (9 ∷ [])) l) refl (none-empty (at + suc (length l)) ls k)
   where
-    go : (o : Option (List ℕ)) → after (k ++ (9 ∷ [])) l ≡ o → ((located_from (at + suc (length l)) ls k).found ≡ false → (located_from (at + suc (length l)) ls k).len ≡ 0)
+    go : (o : Maybe (List ℕ)) → after (k ++ (9 ∷ [])) l ≡ o → ((located_from (at + suc (length l)) ls k).found ≡ false → (located_from (at + suc (length l)) ls k).len ≡ 0)
         → (located_from at (l ∷ ls) k).len ≡ 0
     go none f next = rw (f, located_from) (next (rw (f, located_from) at e))
     go (some v) f next = clash {b = true} refl (rw (f, located_from) at e)

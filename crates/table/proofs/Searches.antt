@@ -2,23 +2,33 @@
 -- Assumes nothing.
 use mathlib.Core.Path.{◌≡◌, refl, sym, ap, ◌∙◌}
 use mathlib.Core.Bool.{Bool, true, false, cond}
-use mathlib.Core.List.{List, [], ◌∷◌, ◌++◌}
+use mathlib.Core.List.{List, [], ◌∷◌, ◌++◌, reverse}
+use mathlib.Core.Logic.{◌⊎◌, inl, inr}
 use Prim.Native.Nat.{ℕ, zero, suc, ◌+◌, ◌-◌, ◌≤◌, ◌<◌, zero-le, suc-le-suc}
 use native.Mathlib.Nat.{le_of_suc-le-suc, not-suc-le-zero, sub-zero, suc-sub-suc, le_antisymm}
 use native.Mathlib.Numerals.{add-one}
 use native.Mathlib.Omega.{arith}
 use lib.Dec.{eqb, ltb}
 use lib.ListN.{length, take, drop, get_or, drop_of_length-le, length-take, length-drop}
-use lib.Seq.{drop-cons, drop-length}
+use lib.Seq.{drop-cons, drop-length, take_all}
 use borrow.Author.Tests.{eq-eqb, ne_eqb, lt-ltb, le-ltb, ltb-true, ltb-false, eqb-true, not-true}
 use Rattle.standard.specs.Tag.{onto}
 use Rattle.standard.specs.Identifier.{parts}
-use Rattle.standard.specs.Table.{located, located_from}
+use Rattle.standard.specs.Table.{Found as Located, located, located_from}
+use Rattle.standard.proofs.General.{le-or-lt}
 use Rattle.byte_string.specs.Strings.{end_of}
-use Rattle.table.specs.Lines.{lines, starts, no_row}
+use Rattle.table.specs.Lines.{lines, starts, no_row, row_at, row_in}
 use Rattle.table.specs.Search.{below, ascend_from, ascend, Opens, Sorted, row_from, not_below, LineStart, Landed, Span}
-use Rattle.table.proofs.Lines.{located-cons, lines_at, row-start}
-use Rattle.byte_string.proofs.Ends.{ends}
+use Rattle.table.proofs.Lines.{located-cons, lines_at, row-start, row-hit}
+use Rattle.byte_string.proofs.Ends.{ends, end-miss}
+use Rattle.std.specs.Prelude.{min, nat_lt}
+use Rattle.std.specs.declared.cmp.Ordering.{Ordering}
+use Rattle.std.specs.declared.cmp.Ordering.TheVariants.{Less, Equal, Greater}
+use Rattle.std.specs.Ordering.{MatchOrdering, nat_cmp, ordering_then}
+use Rattle.std.specs.Cmp.Lexicographic.{slice_cmp}
+use Rattle.std.specs.List.{AllWithin, HoldsAt}
+use Rattle.std.proofs.lemmas.Cmp.{ranked}
+use Rattle.std.proofs.lemmas.List.{get_or-reverse, length-reverse, get_or-take, get_or-drop}
 
 -- two numbers, compared
 pub data Cmp (x y : ℕ) : Type 0 where
@@ -210,42 +220,42 @@ cut-size [] (suc lo) (suc m) g h o = absurd (not-suc-le-zero h)
 cut-size (x ∷ t) (suc lo) (suc zero) g h o = rw suc-sub-suc (cut-size t lo zero (le_of_suc-le-suc g) zero-le refl)
 cut-size (x ∷ t) (suc lo) (suc (suc m)) g h o = rw suc-sub-suc (cut-size t lo (suc m) (le_of_suc-le-suc g) (le_of_suc-le-suc h) o)
 
--- a line against a key and a tab, from i on
-unfoldable pub below_from : List ℕ → List ℕ → ℕ → Bool
-below_from l key i = below (drop i l) (drop i key ++ (9 ∷ []))
+-- a line against a key and a tab: first against the key, as std's slices have it
+abbrev pub by_front : Ordering → Bool → Bool
+by_front Less b = true
+by_front Equal b = b
+by_front Greater b = false
 
-pub below-start : (l key : List ℕ) → below l (key ++ (9 ∷ [])) ≡ below_from l key 0
-unfolding below_from
-below-start l key = refl
+pub below-front : (key l : List ℕ) → below l (key ++ (9 ∷ [])) ≡ by_front (slice_cmp nat_cmp (take (length key) l) key) (below (drop (length key) l) (9 ∷ []))
+unfolding below
+below-front [] l = refl
+below-front (x ∷ key) [] = refl
+below-front (x ∷ key) (y ∷ l) = go (nat_cmp y x) (ranked y x (nat_cmp y x) refl) (below-front key l)
+  where
+    go : (o : Ordering) → MatchOrdering o (y < x) (y ≡ x) (x < y)
+        → below l (key ++ (9 ∷ [])) ≡ by_front (slice_cmp nat_cmp (take (length key) l) key) (below (drop (length key) l) (9 ∷ []))
+        → below (y ∷ l) (x ∷ (key ++ (9 ∷ []))) ≡ by_front (ordering_then o (slice_cmp nat_cmp (take (length key) l) key)) (below (drop (length key) l) (9 ∷ []))
+    go Less h i = below-lt y x l (key ++ (9 ∷ [])) h
+    go Equal h i = below_eq y x l (key ++ (9 ∷ [])) h ∙ i
+    go Greater h i = below-gt y x l (key ++ (9 ∷ [])) h
 
-pub below-short : (l key : List ℕ) (i : ℕ) → i < length key → length l ≤ i → below_from l key i ≡ true
-unfolding below_from below
-below-short l key i h k = rw (drop-cons key i 0 h, drop_of_length-le l k)
+-- the answer by the order of the line's front and the key
+pub below-by : (key l : List ℕ) (n : ℕ) (o : Ordering) → n ≡ min (length key) (length l) → o ≡ slice_cmp nat_cmp (take n l) key
+    → below l (key ++ (9 ∷ [])) ≡ by_front o (below (drop (length key) l) (9 ∷ []))
+below-by key l n o e f = below-front key l ∙ ap (λ (q : Ordering). by_front q (below (drop (length key) l) (9 ∷ []))) (sym (f ∙ ap (λ (q : List ℕ). slice_cmp nat_cmp q key) (same (le-or-lt (length key) (length l)))))
+  where
+    same : (length key ≤ length l) ⊎ (length l < length key) → take n l ≡ take (length key) l
+    same (inl h) = let z : n ≡ length key = omega arith in rw z
+    same (inr h) = take_all n l (omega arith) ∙ sym (take_all (length key) l (omega arith))
 
-below_at : (l key : List ℕ) (i : ℕ) → i < length key → i < length l
-    → below_from l key i ≡ below (get_or l i 0 ∷ drop (suc i) l) (get_or key i 0 ∷ (drop (suc i) key ++ (9 ∷ [])))
-unfolding below_from
-below_at l key i h k = rw (drop-cons key i 0 h, drop-cons l i 0 k)
+-- what is left of the line against the tab
+pub below-none : (key l : List ℕ) → length l ≤ length key → below (drop (length key) l) (9 ∷ []) ≡ true
+unfolding below
+below-none key l h = rw (drop_of_length-le l h)
 
-pub below_less : (l key : List ℕ) (i : ℕ) → i < length key → i < length l → get_or l i 0 < get_or key i 0 → below_from l key i ≡ true
-below_less l key i h k e = below_at l key i h k ∙ below-lt _ _ _ _ e
-
-pub below_more : (l key : List ℕ) (i : ℕ) → i < length key → i < length l → get_or key i 0 < get_or l i 0 → below_from l key i ≡ false
-below_more l key i h k e = below_at l key i h k ∙ below-gt _ _ _ _ e
-
-pub below-same : (l key : List ℕ) (i : ℕ) → i < length key → i < length l → get_or key i 0 ≤ get_or l i 0 → get_or l i 0 ≤ get_or key i 0
-    → below_from l key i ≡ below_from l key (i + 1)
-unfolding below_from
-below-same l key i h k e f = below_at l key i h k ∙ rw add-one (below_eq _ _ _ _ (le_antisymm f e))
-
-pub below_end : (l key : List ℕ) (i : ℕ) → length key ≤ i → length l ≤ i → below_from l key i ≡ true
-unfolding below_from below
-below_end l key i h k = rw (drop_of_length-le key h, drop_of_length-le l k)
-
-pub below-tab : (l key : List ℕ) (i : ℕ) → length key ≤ i → i ≤ length key → length key < length l → below_from l key i ≡ ltb (get_or l (length key) 0) 9
-unfolding below_from below
-below-tab l key i h g k =
-    rw (le_antisymm g h, drop-length key, drop-cons l (length key) 0 k) (go (ltb (get_or l (length key) 0) 9) (ltb 9 (get_or l (length key) 0)))
+pub below-tab : (key l : List ℕ) → length key < length l → below (drop (length key) l) (9 ∷ []) ≡ nat_lt (get_or l (length key) 0) 9
+unfolding below
+below-tab key l h = rw (drop-cons l (length key) 0 h) (go (nat_lt (get_or l (length key) 0) 9) (ltb 9 (get_or l (length key) 0)))
   where
     go : (a b : Bool) → cond a true (cond b false false) ≡ a
     go true b = refl
@@ -340,11 +350,69 @@ landed t key lo hi s h =
     let z : hi ≡ lo = le_antisymm h s.low in
     record { seen = s.seen; up = s.up; rest = rw z at s.rest }
 
--- where the line at i does not begin with the key and a tab, there is no row
-pub landed-miss : (t key : List ℕ) (i e : ℕ) → Landed t key i → e ≡ end_of 10 t i → i < length t
-    → starts (key ++ (9 ∷ [])) (take (e - i) (drop i t)) ≡ false → located t key ≡ no_row
-unfolding row_from ascend not_below
-landed-miss t key i e d q h f =
-    let p = key ++ (9 ∷ []) in
-    let a : lines (drop i t) ≡ take (e - i) (drop i t) ∷ lines (drop (e + 1) t) = rw q (lines_at t i h) in
-    d.seen ∙ ap (λ (ls : List (List ℕ)). located_from i ls key) a ∙ none_after key i _ _ (sym (ap ascend a) ∙ d.up) (not-true _ (sym (ap (not_below p) a) ∙ d.rest)) f
+-- the line at i has the row, or no line has
+pub landed-own : (t key : List ℕ) (i e : ℕ) (f : Located) → Landed t key i → e ≡ end_of 10 t i → i < length t → f ≡ row_in t key i e → f ≡ located t key
+unfolding row_from ascend not_below row_in
+landed-own t key i e f d q h r = r ∙ go (starts (key ++ (9 ∷ [])) (take (e - i) (drop i t))) refl
+  where
+    p : List ℕ
+    p = key ++ (9 ∷ [])
+
+    a : lines (drop i t) ≡ take (e - i) (drop i t) ∷ lines (drop (e + 1) t)
+    a = rw q (lines_at t i h)
+
+    go : (b : Bool) → starts (key ++ (9 ∷ [])) (take (e - i) (drop i t)) ≡ b → cond b (row_at (i + length key + 1) (e - (i + length key + 1))) no_row ≡ located t key
+    go true s = sym (d.seen ∙ row-hit t key i e q h s)
+    go false s = sym (d.seen ∙ ap (λ (ls : List (List ℕ)). located_from i ls key) a ∙ none_after key i _ _ (sym (ap ascend a) ∙ d.up) (not-true _ (sym (ap (not_below (key ++ (9 ∷ []))) a) ∙ d.rest)) s)
+
+-- The start of a line, sought back from `from`: where a byte is 0A, and none behind it is.
+abbrev pub Newline : ℕ → Type 0
+Newline b = b ≡ 10
+
+abbrev pub Other : ℕ → Type 0
+Other b = ¬ (b ≡ 10)
+
+module _ (t : List ℕ) (lo from : ℕ) (g : lo ≤ from) (h : from ≤ length t) where
+  back_length : length (take (from - lo) (drop lo t)) ≡ from - lo
+  back_length = simp (length-take, length-drop) (omega arith)
+
+  -- the byte so far back
+  back_at : (k : ℕ) → k < from - lo → get_or (reverse (take (from - lo) (drop lo t))) k 0 ≡ get_or t (from - 1 - k) 0
+  back_at k b =
+      let n = back_length in
+      let z : lo + (from - lo - 1 - k) ≡ from - 1 - k = omega arith in
+      get_or-reverse (take (from - lo) (drop lo t)) k 0 (omega arith) ∙ ap (λ (m : ℕ). get_or (take (from - lo) (drop lo t)) (m - 1 - k) 0) n
+      ∙ get_or-take (from - lo) (drop lo t) (from - lo - 1 - k) 0 (omega arith) ∙ get_or-drop lo t (from - lo - 1 - k) 0 ∙ ap (λ (j : ℕ). get_or t j 0) z
+
+  -- no line ends on the way back
+  end-back : (n : ℕ) → n ≤ from - lo → ((k : ℕ) → k < n → Other (get_or t (from - 1 - k) 0)) → end_of 10 t (from - n) ≡ end_of 10 t from
+  end-back zero b f = let z : from - 0 ≡ from = omega arith in ap (end_of 10 t) z
+  end-back (suc n) b f =
+      let z : from - suc n + 1 ≡ from - n = omega arith in
+      let y : from - 1 - n ≡ from - suc n = omega arith in
+      end-miss 10 t (from - suc n) (omega arith) (rw y at (f n (omega arith))) ∙ ap (end_of 10 t) z ∙ end-back n (omega arith) (λ k c. f k (omega arith))
+
+  pub start-found : (k : ℕ) → k < length (reverse (take (from - lo) (drop lo t))) → HoldsAt Newline (reverse (take (from - lo) (drop lo t))) k
+      → AllWithin Other (reverse (take (from - lo) (drop lo t))) 0 k → LineStart t lo from (from - k)
+  start-found k b y n =
+      let l = back_length in
+      let w = length-reverse (take (from - lo) (drop lo t)) in
+      let z : from - k - 1 ≡ from - 1 - k = omega arith in
+      record {
+        low = omega arith;
+        high = omega arith;
+        opens = λ o. opens-after t (from - k) (omega arith) (ap (λ (j : ℕ). get_or t j 0) z ∙ sym (back_at k (omega arith)) ∙ y 0);
+        ends = end-back k (omega arith) (λ j c. rw (back_at j (omega arith)) at (n j 0 zero-le c));
+      }
+
+  pub start_none : AllWithin Other (reverse (take (from - lo) (drop lo t))) 0 (length (reverse (take (from - lo) (drop lo t)))) → LineStart t lo from lo
+  start_none n =
+      let l = back_length in
+      let w = length-reverse (take (from - lo) (drop lo t)) in
+      let z : from - (from - lo) ≡ lo = omega arith in
+      record {
+        low = omega arith;
+        high = g;
+        opens = λ o. o;
+        ends = ap (end_of 10 t) (sym z) ∙ end-back (from - lo) (omega arith) (λ j c. rw (back_at j c) at (n j 0 zero-le (omega arith)));
+      }

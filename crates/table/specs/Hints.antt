@@ -1,7 +1,7 @@
 -- Hints beside a table: for the slot of a key, where its row starts. 65535 says nothing; below 32768 is one more than the
 -- place of the only row whose key has the slot, and 0 that there is none; the others are 32768 more than the place of the
 -- first such row. Assumes nothing.
-use Rattle.std.specs.Prelude.{◌≡◌, Bool, true, false, cond, List, [], ◌∷◌, ◌++◌, ℕ, suc, ◌+◌, ◌-◌, ◌*◌, ◌%◌, ◌≤◌, ◌<◌, eqb, ltb, length, take, drop, get_or, set}
+use Rattle.std.specs.Prelude.{◌≡◌, Bool, true, false, cond, List, [], ◌∷◌, ◌++◌, ℕ, suc, ◌+◌, ◌-◌, ◌*◌, ◌%◌, ◌≤◌, ◌<◌, eqb, ltb, length, take, drop, get_or}
 use Rattle.standard.specs.Table.{Found as Located}
 use Rattle.byte_string.specs.Strings.{end_of}
 use Rattle.table.specs.Lines.{starts, no_row, row_at}
@@ -68,13 +68,3 @@ pub record Indexed (t hints : List ℕ) : Type 0 where
 -- a slot's hint once there is a row at the place with this slot
 unfoldable pub hint_of : ℕ → ℕ → ℕ
 hint_of old p = cond (ltb 32766 p) 65535 (cond (eqb old 0) (p + 1) (cond (ltb old 32768) (old + 32767) old))
-
--- the hints, with that of the line's slot at the place `at`, the start of the line and the slot so far, past one more byte
-unfoldable pub hints_past : List ℕ → ℕ → ℕ → ℕ → List ℕ
-hints_past hints at p b = cond (eqb b 9) (set hints at (hint_of (get_or hints at 0) p)) hints
-
-unfoldable pub start_past : ℕ → ℕ → ℕ → ℕ
-start_past p b next = cond (eqb b 10) next p
-
-unfoldable pub slot_past : ℕ → ℕ → ℕ
-slot_past h b = cond (eqb b 10) 0 (slot_step h b)

@@ -5,74 +5,62 @@
 
 pub mod hints;
 
-ghost use Rattle.std.specs.Prelude.{◌≡◌, [], ◌∷◌, ◌++◌, ◌+◌, ◌≤◌, length};
+ghost use Rattle.std.specs.Prelude.{◌≡◌, [], ◌∷◌, ◌++◌, ◌≤◌, length};
+ghost use Rattle.std.specs.Option.{IfSome};
 ghost use Rattle.standard.specs.Table.{located};
-ghost use Rattle.table.specs.Lines.{starts, found_is, value_of};
+ghost use Rattle.table.specs.Lines.{starts, found_is, value_is, value_if, row_in, InTable};
 ghost use Rattle.table.specs.Search.{below, Sorted, LineStart, Landed};
 
 use byte_string::end_of;
+use std::cmp::Ordering;
+use std::ops::Range;
 
 // Does the line begin with the key and a tab?
 pub fn starts_row(line: &[u8], key: &[u8]) -> bool
     ensures { result ≡ starts (key.now ++ (9 ∷ [])) line.now }
 {
     let n = key.len();
-    if line.len() <= n {
+    // the tab first: it rules out most lines at once
+    if line.len() <= n || line[n] != b'\t' {
         return false;
     }
-    let mut i = 0;
-    while i < n {
-        if key[i] != line[i] {
-            return false;
-        }
-        i += 1;
-    }
-    b'\t' == line[n]
+    &line[..n] == key
 }
 
-// Whether there is a row with the key, and where its value is in the table.
-#[derive(Clone, Copy)]
-pub struct Found {
-    pub found: bool,
-    pub start: usize,
-    pub len: usize,
-}
-
-// The first line that begins with the key and a tab, from there to its 0A or the end.
-pub fn find(t: &[u8], key: &[u8]) -> Found
-    ensures { (found_is result ≡ located t.now key.now) × (result.start + result.len ≤ length t.now) }
+// Where the value of the line from i to e is, if the line begins with the key and a tab.
+fn value_in(t: &[u8], i: usize, e: usize, key: &[u8]) -> Option<Range<usize>>
+    requires { (i ≤ e) × (e ≤ length t.now) }
+    ensures { (found_is result ≡ row_in t.now key.now i e) × InTable t.now result }
 {
-    let n = key.len();
+    if starts_row(&t[i..e], key) {
+        Some(i + key.len() + 1..e)
+    } else {
+        None
+    }
+}
+
+// The place of the value of the first line that begins with the key and a tab: from there to the line's 0A or the end.
+pub fn find(t: &[u8], key: &[u8]) -> Option<Range<usize>>
+    ensures { (found_is result ≡ located t.now key.now) × InTable t.now result }
+{
     let mut i = 0;
+    // a step is as long as its line
     while i < t.len() {
         let e = end_of(t, b'\n', i);
-        if starts_row(&t[i..e], key) {
-            let start = i + n + 1;
-            return Found {
-                found: true,
-                start,
-                len: e - start,
-            };
+        if let Some(value) = value_in(t, i, e, key) {
+            return Some(value);
         }
         i = e + 1;
     }
-    Found {
-        found: false,
-        start: 0,
-        len: 0,
-    }
+    None
 }
 
-// The value of the first row with the key, as a part of the table, and whether there is one.
-pub fn lookup<'a>(t: &'a [u8], key: &[u8], found: &mut bool) -> &'a [u8]
-    ensures result_value { result.now ≡ value_of t.now (located t.now key.now) }
-    ensures found_after { found.new ≡ (located t.now key.now).found }
+// The value of the first row with the key, as a part of the table.
+pub fn lookup<'a>(t: &'a [u8], key: &[u8]) -> Option<&'a [u8]>
+    ensures { let t = t.entry.now in value_is result ≡ value_if t (located t key.now) }
 {
-    let f = find(t, key);
-    let start = f.start;
-    let end = start + f.len;
-    *found = f.found;
-    &t[start..end]
+    let value = find(t, key)?;
+    Some(&t[value])
 }
 
 // Does the line come before every line that begins with the key and a tab?
@@ -80,23 +68,12 @@ pub(crate) fn below_row(line: &[u8], key: &[u8]) -> bool
     ensures { result ≡ below line.now (key.now ++ (9 ∷ [])) }
 {
     let n = key.len();
-    let mut i = 0;
-    while i < n {
-        if line.len() <= i {
-            return true;
-        }
-        if line[i] < key[i] {
-            return true;
-        }
-        if key[i] < line[i] {
-            return false;
-        }
-        i += 1;
+    let front = &line[..n.min(line.len())];
+    match front.cmp(key) {
+        Ordering::Less => true,
+        Ordering::Equal => line.len() <= n || line[n] < b'\t',
+        Ordering::Greater => false,
     }
-    if line.len() <= n {
-        return true;
-    }
-    line[n] < 9
 }
 
 // The start of the line that `from` is in, or lo where that is later.
@@ -104,14 +81,10 @@ fn line_start(t: &[u8], lo: usize, from: usize) -> usize
     requires { (lo ≤ from) × (from ≤ length t.now) }
     ensures { LineStart t.now lo from result }
 {
-    let mut m = from;
-    while lo < m {
-        if t[m - 1] == b'\n' {
-            return m;
-        }
-        m -= 1;
+    match t[lo..from].iter().rev().position(|b| *b == b'\n') {
+        Some(back) => from - back,
+        None => lo,
     }
-    m
 }
 
 // Where the row with the key is in a sorted table, if it is there.
@@ -120,6 +93,7 @@ fn locate(t: &[u8], key: &[u8]) -> usize
 {
     let mut lo = 0;
     let mut hi = t.len();
+    // by hand: rows differ in length, and std's search wants an element for each
     while lo < hi {
         let mid = lo + (hi - lo) / 2;
         let m = line_start(t, lo, mid);
@@ -135,38 +109,22 @@ fn locate(t: &[u8], key: &[u8]) -> usize
 }
 
 // As find, of a sorted table.
-pub fn find_sorted(t: &[u8], key: &[u8]) -> Found
-    ensures { (Sorted t.now → found_is result ≡ located t.now key.now) × (result.start + result.len ≤ length t.now) }
+pub fn find_sorted(t: &[u8], key: &[u8]) -> Option<Range<usize>>
+    ensures { (Sorted t.now → found_is result ≡ located t.now key.now) × InTable t.now result }
 {
-    let n = key.len();
     let i = locate(t, key);
-    if i < t.len() {
-        let e = end_of(t, b'\n', i);
-        if starts_row(&t[i..e], key) {
-            let value = i + n + 1;
-            return Found {
-                found: true,
-                start: value,
-                len: e - value,
-            };
-        }
+    if t.len() <= i {
+        return None;
     }
-    Found {
-        found: false,
-        start: 0,
-        len: 0,
-    }
+    let line_end = end_of(t, b'\n', i);
+    value_in(t, i, line_end, key)
 }
 
 // As lookup, of a sorted table.
-pub fn lookup_sorted<'a>(t: &'a [u8], key: &[u8], found: &mut bool) -> &'a [u8]
-    ensures result_value { let t = t.entry.now in
-        (length result.now ≤ length t) × (Sorted t → result.now ≡ value_of t (located t key.now)) }
-    ensures found_after { Sorted t.now → found.new ≡ (located t.now key.now).found }
+pub fn lookup_sorted<'a>(t: &'a [u8], key: &[u8]) -> Option<&'a [u8]>
+    ensures value { let t = t.entry.now in Sorted t → value_is result ≡ value_if t (located t key.now) }
+    ensures within { IfSome result (λ v. length v.now ≤ length t.entry.now) }
 {
-    let f = find_sorted(t, key);
-    let start = f.start;
-    let end = start + f.len;
-    *found = f.found;
-    &t[start..end]
+    let value = find_sorted(t, key)?;
+    Some(&t[value])
 }

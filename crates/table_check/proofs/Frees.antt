@@ -19,9 +19,10 @@ use Rattle.byte_string.specs.Strings.{end_of}
 use Rattle.table.specs.Lines.{value_if}
 use Rattle.byte_string.proofs.Ends.{ends}
 use Rattle.table.proofs.Lines.{lookup-located}
+use Rattle.std.specs.Prelude.{Option as Perhaps, Some}
 use Rattle.row_shapes.specs.declared.lsr.Three.{Three}
 use Rattle.row_shapes.specs.declared.aliases.AliasKind.{AliasKind}
-use Rattle.row_shapes.specs.declared.aliases.AliasKind.TheVariants.{Language, Script, Region, Variant, Unknown}
+use Rattle.row_shapes.specs.declared.aliases.AliasKind.TheVariants.{Language, Script, Region, Variant}
 use Rattle.row_shapes.specs.Shapes.{is_script, is_region, between, others, ThreeAt}
 use Rattle.row_shapes.specs.Rows.{language_name, script_name, region_name, variant_name, kind_named, language_alias, shape_by}
 use Rattle.row_shapes.proofs.Tags.{language-long, script-length, region-sizes, variant-long}
@@ -30,7 +31,7 @@ use Rattle.row_shapes.proofs.Pieces.{pieces-first, others-at, others-none}
 use Rattle.row_shapes.proofs.Threes.{ThreeOk, three-ok, parse-pieces}
 use Rattle.row_shapes.proofs.Tests.{alias-by}
 use Rattle.aliases.specs.Keys.{kind_key, is_key}
-use Rattle.table_check.specs.Free.{free_three, own_tag, free_alias}
+use Rattle.table_check.specs.Free.{free_three, own_tag, own_free, free_alias}
 
 -- Keys that are not there.
 none-parsed : (o : Option (List ℕ)) → is_none (parsed o) ≡ is_none o
@@ -79,19 +80,19 @@ module _ (A L P : List ℕ) where
   free-three t = rw (no-language t.language, no-script t.script, no-region t.region)
 
   alias-language : (key value : Tag) → alias_free (tables_of A L P) (language_name ∷ key ∷ value ∷ []) ≡ free_alias A (language_name ∷ key ∷ value ∷ [])
-  unfolding alias_free free_alias kind_named own_tag same order
+  unfolding alias_free free_alias kind_named own_free own_tag same order
   alias-language key value = and_right (is_none ((tables_of A L P).languages (parse value).language)) ∙ no-language (parse value).language
 
   alias-script : (key value : Tag) → alias_free (tables_of A L P) (script_name ∷ key ∷ value ∷ []) ≡ free_alias A (script_name ∷ key ∷ value ∷ [])
-  unfolding alias_free free_alias kind_named own_tag same order
+  unfolding alias_free free_alias kind_named own_free own_tag same order
   alias-script key value = and_right (is_none ((tables_of A L P).scripts value)) ∙ no-script value
 
   alias-region : (key value : Tag) → alias_free (tables_of A L P) (region_name ∷ key ∷ value ∷ []) ≡ free_alias A (region_name ∷ key ∷ value ∷ [])
-  unfolding alias_free free_alias kind_named own_tag same order
+  unfolding alias_free free_alias kind_named own_free own_tag same order
   alias-region key value = and_right (is_none ((tables_of A L P).regions value)) ∙ no-region value
 
   alias-variant : (key value : Tag) → alias_free (tables_of A L P) (variant_name ∷ key ∷ value ∷ []) ≡ free_alias A (variant_name ∷ key ∷ value ∷ [])
-  unfolding alias_free free_alias kind_named own_tag same order
+  unfolding alias_free free_alias kind_named own_free own_tag same order
   alias-variant key value = no_variant value
 
   -- an alias row that has its shape
@@ -130,12 +131,9 @@ variant-small : (t : Tag) → is_variant_tag t ≡ true → length t ≤ 16
 variant-small t e = ⊎_elim (λ h. omega arith) (λ h. clash e (sym (variant-long t h))) (le-or-lt (length t) 8)
 
 -- the parts of a value
-module _ (s : List ℕ) (r : Three) (t : ThreeAt s r) (e : is_three s ≡ true) where
-  parts : parse s ≡ three (take r.language s) (between s r.language r.script) (drop (r.script + 1) s)
-  parts = t.parts (t.is ∙ e)
-
+module _ (s : List ℕ) (r : Three) (t : ThreeAt s r) where
   ok : ThreeOk (three (take r.language s) (between s r.language r.script) (drop (r.script + 1) s))
-  ok = rw parts at (three-ok s e)
+  ok = rw t.parts at (three-ok s t.is)
 
   pub language-short : length (take r.language s) ≤ 16
   language-short = language-small (take r.language s) ok.language
@@ -148,15 +146,15 @@ module _ (s : List ℕ) (r : Three) (t : ThreeAt s r) (e : is_three s ≡ true) 
 
   pub language-clash : (A : List ℕ) → is_key A Language (take r.language s) ≡ true → false ≡ free_three A (parse s)
   unfolding free_three
-  language-clash A k = sym (ap (free_three A) parts ∙ rw k)
+  language-clash A k = sym (ap (free_three A) t.parts ∙ rw k)
 
   pub script-clash : (A : List ℕ) → is_key A Language (take r.language s) ≡ false → is_key A Script (between s r.language r.script) ≡ true → false ≡ free_three A (parse s)
   unfolding free_three
-  script-clash A k l = sym (ap (free_three A) parts ∙ rw (k, l))
+  script-clash A k l = sym (ap (free_three A) t.parts ∙ rw (k, l))
 
   pub region-clash : (A : List ℕ) (b : Bool) → is_key A Language (take r.language s) ≡ false → is_key A Script (between s r.language r.script) ≡ false → b ≡ is_key A Region (between s r.script (length s)) → not b ≡ free_three A (parse s)
   unfolding free_three
-  region-clash A b k l m = sym (ap (free_three A) parts ∙ rw (k, l) (ap (λ (x : Tag). not (is_key A Region x)) (sym (all_from (r.script + 1) s)) ∙ ap not (sym m)))
+  region-clash A b k l m = sym (ap (free_three A) t.parts ∙ rw (k, l) (ap (λ (x : Tag). not (is_key A Region x)) (sym (all_from (r.script + 1) s)) ∙ ap not (sym m)))
 
 -- the own subtag
 pub own-language : (v : List ℕ) (l : ℕ) → l ≡ end_of 45 v 0 → take l v ≡ (parse v).language
@@ -165,7 +163,13 @@ own-language v l q = sym (ap (λ (t : Subtags). t.language) (parse-pieces v (tak
 pub own_is : {k : AliasKind} (l : AliasKind) (v r : Tag) → k ≡ l → r ≡ own_tag l v → r ≡ own_tag k v
 own_is l v r e f = f ∙ ap (λ (x : AliasKind). own_tag x v) (sym e)
 
-own-short : (k : AliasKind) (key v : Tag) → shape_by k key v ≡ true → length (own_tag k v) ≤ 16
+pub own-whole : (k : AliasKind) (v : Tag) → (k ≡ Script) ⊎ ((k ≡ Region) ⊎ (k ≡ Variant)) → v ≡ own_tag k v
+unfolding own_tag
+own-whole k v (inl e) = rw e
+own-whole k v (inr (inl e)) = rw e
+own-whole k v (inr (inr e)) = rw e
+
+own-short : (k : AliasKind) (key v : Tag) → shape_by (Some k) key v ≡ true → length (own_tag k v) ≤ 16
 unfolding shape_by language_alias own_tag
 own-short Language key v e =
     let h = and-true (is_language key && not (same key und)) (is_three v && not (language_is_und (parse v))) e in
@@ -175,15 +179,14 @@ own-short Language key v e =
 own-short Script key v e = script-small v (inr (and-true (is_script key) (is_script v) e).1)
 own-short Region key v e = region-small v (inr (and-true (is_region key) (is_region v) e).1)
 own-short Variant key v e = variant-small v (and-true (is_variant_tag key) (is_variant_tag v) e).1
-own-short Unknown key v e = no e
 
 -- the fields of an alias row, by its tabs
 pub record AliasLine (A l : List ℕ) (x y : ℕ) : Type 0 where
   pub first : x < length l
   pub second : y < length l
   pub low : x + 1 ≤ y
-  pub short : length (own_tag (kind_named (take x l)) (drop (y + 1) l)) ≤ 16
-  pub free : free_alias A (pieces 9 l) ≡ not (is_key A (kind_named (take x l)) (own_tag (kind_named (take x l)) (drop (y + 1) l)))
+  pub short : (k : AliasKind) → kind_named (take x l) ≡ Some k → length (own_tag k (drop (y + 1) l)) ≤ 16
+  pub free : free_alias A (pieces 9 l) ≡ own_free A (kind_named (take x l)) (drop (y + 1) l)
 
 pub others-some : (b : ℕ) (l : List ℕ) (e : ℕ) (t : Tag) (ts : List Tag) → others b l e ≡ t ∷ ts → e < length l
 others-some b l e t ts q = ⊎_elim (λ h. let z : t ∷ ts ≡ [] = sym q ∙ others-none b l e h in let n = ap length z in absurd (omega arith)) (λ h. h) (le-or-lt (length l) e)
@@ -211,8 +214,8 @@ alias-tags A l x y q r a k v e s =
       first = h;
       second = g;
       low = d.low;
-      short = rw (← w, ← u) (own-short (kind_named a) k v s);
-      free = ap (free_alias A) e ∙ ap₂ (λ (b c : Tag). not (is_key A (kind_named b) (own_tag (kind_named b) c))) w u;
+      short = λ i n. rw (← u) (own-short i k v (ap (λ (z : Perhaps AliasKind). shape_by z k v) (sym n ∙ ap kind_named (sym w)) ∙ s));
+      free = ap (free_alias A) e ∙ ap₂ (λ (b c : Tag). own_free A (kind_named b) c) w u;
     }
 
 pub alias-line : (A l : List ℕ) (x y : ℕ) → x ≡ end_of 9 l 0 → y ≡ end_of 9 l (x + 1) → alias_shape (pieces 9 l) ≡ true → AliasLine A l x y

@@ -1,9 +1,9 @@
 -- The answers of the check, one part after the other.
 -- Assumes nothing.
-use mathlib.Core.Path.{◌≡◌, refl, sym, ap, ap₂, ◌∙◌}
+use mathlib.Core.Path.{◌≡◌, refl, sym, ap, ◌∙◌}
 use mathlib.Core.Bool.{Bool, true, false}
 use mathlib.Core.List.{List, [], ◌∷◌}
-use mathlib.Core.Option.{Option, none}
+use mathlib.Core.Option.{Option, none, some}
 use Prim.Native.Nat.{ℕ, ◌≤◌, ◌<◌}
 use lib.ListN.{length}
 use borrow.Author.Tests.{le-leb, lt-leb}
@@ -18,10 +18,16 @@ use Rattle.table.specs.Search.{Sorted}
 use Rattle.row_shapes.specs.declared.Table.TheVariants.{Aliases, Likely, Parents}
 use Rattle.row_shapes.specs.Rows.{kind_is}
 use Rattle.row_shapes.proofs.Sorted.{sorted}
-use Rattle.table_check.specs.declared.Verdict.{Verdict}
-use Rattle.table_check.specs.declared.Verdict.TheVariants.{Good, Bad}
+use Rattle.std.specs.Prelude.{⊤, Result, Ok, Err}
+use mathlib.Core.Logic.{◌⊎◌, inl, inr}
+use Rattle.table_check.specs.declared.Fault.{Fault as Wrong}
+use Rattle.std.specs.Result.{IsErrAnd}
+use Rattle.row_shapes.specs.declared.Table.{Table}
+use Rattle.table_check.specs.declared.Kind.{Kind}
+use Rattle.table_check.specs.declared.Use.{Use}
+use Rattle.table_check.specs.declared.Use.TheVariants.{Canonicalise, Maximise, Chain, Check}
 use Rattle.table_check.specs.Free.{free_row}
-use Rattle.table_check.specs.Verdicts.{verdict_is, of_table, as_used, any_used, is_used, clash_by}
+use Rattle.table_check.specs.Verdicts.{kind_number, fault_of, verdict_is, use_is, of_table, as_used, any_used, is_used, clash_by}
 use Rattle.table_check.proofs.Clashes.{clash-is}
 
 -- A fault of a table.
@@ -30,9 +36,14 @@ module _ (n : ℕ) (o : Option Fault) where
   unfolding in_table
   in-none f = rw (← f)
 
-  pub in_some : (m p k : ℕ) → fault m p ≡ o → k ≡ n → verdict_is (Bad m p k) ≡ in_table n o
+  pub in_some : (k : Kind) (p : ℕ) (t : Table) → fault (kind_number k) p ≡ o → table_number (kind_is t) ≡ n → some (fault_of (record { kind = k; place = p; table = t })) ≡ in_table n o
   unfolding in_table
-  in_some m p k f g = rw (← f, g)
+  in_some k p t f g = rw (← f, ← g)
+
+-- a fault that is handed on
+pub handed : (r : Result ⊤ Wrong) (w : Wrong) → IsErrAnd r (λ (x : Wrong). x ≡ w) → {o : Option TableFault} → some (fault_of w) ≡ o → verdict_is r ≡ o
+handed (Ok done) w e f = absurd e
+handed (Err x) w e f = ap (λ (y : Wrong). some (fault_of y)) e ∙ f
 
 pub small : (t : List ℕ) → length t ≤ 32768 → none ≡ too_big t
 unfolding too_big
@@ -43,22 +54,18 @@ unfolding too_big
 large t h = rw (lt-leb (length t) 32768 h, too_big)
 
 -- One answer after the other.
-module _ (x y z : Option TableFault) (v : Verdict) (e : verdict_is v ≡ x) where
-  pub first-bad : {n p t : ℕ} → v ≡ Bad n p t → verdict_is v ≡ first_table x (first_table y z)
+module _ (x y z : Option TableFault) where
+  pub first-bad : (w : Wrong) → some (fault_of w) ≡ x → some (fault_of w) ≡ first_table x (first_table y z)
   unfolding first_table
-  first-bad f = ap verdict_is f ∙ sym (ap (λ (o : Option TableFault). first_table o (first_table y z)) (sym e ∙ ap verdict_is f))
+  first-bad w e = rw (← e)
 
-  module _ (g : v ≡ Good) where
-    none_first : x ≡ none
-    none_first = sym e ∙ ap verdict_is g
+  pub second-bad : none ≡ x → (w : Wrong) → some (fault_of w) ≡ y → some (fault_of w) ≡ first_table x (first_table y z)
+  unfolding first_table
+  second-bad e w f = rw (← e, ← f)
 
-    pub second-bad : (w : Verdict) {n p t : ℕ} → verdict_is w ≡ y → w ≡ Bad n p t → verdict_is w ≡ first_table x (first_table y z)
-    unfolding first_table
-    second-bad w h f = ap verdict_is f ∙ sym (ap₂ (λ (o q : Option TableFault). first_table o (first_table q z)) none_first (sym h ∙ ap verdict_is f))
-
-    pub third : (w u : Verdict) → verdict_is w ≡ y → w ≡ Good → verdict_is u ≡ z → verdict_is u ≡ first_table x (first_table y z)
-    unfolding first_table
-    third w u h f k = k ∙ sym (ap₂ (λ (o q : Option TableFault). first_table o (first_table q z)) none_first (sym h ∙ ap verdict_is f))
+  pub third : none ≡ x → none ≡ y → (o : Option TableFault) → o ≡ z → o ≡ first_table x (first_table y z)
+  unfolding first_table
+  third e f o g = rw (← e, ← f) g
 
 -- The tables in use.
 pub aliases-used : (u : Purpose) → true ≡ is_used u aliases
@@ -67,6 +74,31 @@ aliases-used to_canonicalise = refl
 aliases-used to_maximise = refl
 aliases-used to_chain = refl
 aliases-used to_check = refl
+
+-- by the purposes that use the table
+pub likely-used : (u : Use) → (u ≡ Maximise) ⊎ (u ≡ Check) → true ≡ is_used (use_is u) likely
+unfolding is_used as_used any_used of_table table_number in_use
+likely-used u (inl e) = rw e
+likely-used u (inr e) = rw e
+
+pub likely-idle : (u : Use) → (u ≡ Maximise → ⊥) → (u ≡ Check → ⊥) → false ≡ is_used (use_is u) likely
+unfolding is_used as_used any_used of_table table_number in_use
+likely-idle Canonicalise f g = refl
+likely-idle Maximise f g = absurd (f refl)
+likely-idle Chain f g = refl
+likely-idle Check f g = absurd (g refl)
+
+pub parents-used : (u : Use) → (u ≡ Chain) ⊎ (u ≡ Check) → true ≡ is_used (use_is u) parents
+unfolding is_used as_used any_used of_table table_number in_use
+parents-used u (inl e) = rw e
+parents-used u (inr e) = rw e
+
+pub parents-idle : (u : Use) → (u ≡ Chain → ⊥) → (u ≡ Check → ⊥) → false ≡ is_used (use_is u) parents
+unfolding is_used as_used any_used of_table table_number in_use
+parents-idle Canonicalise f g = refl
+parents-idle Maximise f g = refl
+parents-idle Chain f g = absurd (f refl)
+parents-idle Check f g = absurd (g refl)
 
 -- a table is in use, or it is not
 module _ {X : Type 0} (x : X) where
@@ -172,6 +204,10 @@ module _ (u : Purpose) (A L P : List ℕ) (s : each shape_fault (in_use u A L P)
 
   pub clash-parents : each (clash_by A) (as_used u parents P) ≡ each (free_fault (tables_of A L P)) (as_used u parents P)
   clash-parents = clash-used u A L P parents P refl (shaped-each u A L P s).parents
+
+-- over the aliases as they are indexed
+pub clash-as : (A B : List ℕ) (us : List (Used (List ℕ))) (o : Option TableFault) → A ≡ B → o ≡ each (clash_by A) us → o ≡ each (clash_by B) us
+clash-as A B us o e f = f ∙ ap (λ (x : List ℕ). each (clash_by x) us) e
 
 -- What a check that passes gives to those who look rows up: sorted tables.
 unfoldable pub SortedTable : Used (List ℕ) → Type 0

@@ -1,19 +1,17 @@
 -- 14: rows that do not clash, by the keys of the aliases. Each definition equals the standard's over rows that have their
 -- shape (proofs/).
 -- Assumes nothing.
-use Rattle.std.specs.Prelude.{Bool, false, not, ◌&&◌, List, [], ◌∷◌, ℕ}
+use Rattle.std.specs.Prelude.{Bool, true, false, not, ◌&&◌, List, [], ◌∷◌, ℕ, Option, Some, None}
 use Rattle.standard.specs.Tag.{Tag, head_tag}
 use Rattle.standard.specs.Identifier.{Three}
 use Rattle.standard.specs.Reading.{Fault, fault}
 use Rattle.standard.specs.Table.{parse, is_three, TableKind, aliases, likely, parents}
 use Rattle.row_shapes.specs.declared.aliases.AliasKind.{AliasKind}
-use Rattle.row_shapes.specs.declared.aliases.AliasKind.TheVariants.{Language, Script, Region, Variant, Unknown}
+use Rattle.row_shapes.specs.declared.aliases.AliasKind.TheVariants.{Language, Script, Region, Variant}
 use Rattle.row_shapes.specs.Rows.{kind_named}
-use Rattle.table_check.specs.declared.Clash.{Clash}
-use Rattle.table_check.specs.declared.Clash.TheVariants.{Free, At}
 use Rattle.aliases.specs.Keys.{is_key}
 use Rattle.parents.specs.Walk.{reaches_from}
-use Rattle.std.proofs.Math.Option.{Option, none}
+use Rattle.std.proofs.Math.Option.{Option as Maybe, none}
 
 -- no language, script or region that aliases replace
 unfoldable pub free_three : List ℕ → Three → Bool
@@ -25,14 +23,18 @@ own_tag Language v = (parse v).language
 own_tag Script v = v
 own_tag Region v = v
 own_tag Variant v = v
-own_tag Unknown v = v
+
+-- it is no key of the kind; a name of no kind has no keys
+unfoldable pub own_free : List ℕ → Option AliasKind → Tag → Bool
+own_free A None v = true
+own_free A (Some k) v = not (is_key A k (own_tag k v))
 
 -- an alias row whose value's own subtag is no key of its kind
 unfoldable pub free_alias : List ℕ → List Tag → Bool
 free_alias A [] = false
 free_alias A (a ∷ []) = false
 free_alias A (a ∷ b ∷ []) = false
-free_alias A (kind ∷ key ∷ value ∷ []) = not (is_key A (kind_named kind) (own_tag (kind_named kind) value))
+free_alias A (kind ∷ key ∷ value ∷ []) = own_free A (kind_named kind) value
 free_alias A (a ∷ b ∷ c ∷ d ∷ ts) = false
 
 -- two fields, each language, perhaps script, perhaps region
@@ -59,6 +61,6 @@ free_row likely A t ts = free_three A (parse (second_of ts))
 free_row parents A t ts = free_parent A t ts
 
 -- the standard's fault that an answer stands for
-abbrev pub clash_is : Clash → Option Fault
-clash_is Free = none
-clash_is (At place) = fault 14 place
+abbrev pub clash_is : Option ℕ → Maybe Fault
+clash_is None = none
+clash_is (Some place) = fault 14 place

@@ -1,19 +1,38 @@
 -- The answer of the check of the tables, and the tests of one table by the code. Assumes nothing.
-use Rattle.std.specs.Prelude.{Bool, true, false, List, [], ◌∷◌, ℕ, eqb}
+use Rattle.std.specs.Prelude.{Bool, true, false, List, [], ◌∷◌, ℕ, eqb, ⊤, Result, Ok, Err}
 use Rattle.std.proofs.Math.Option.{Option, none, some}
 use Rattle.standard.specs.Table.{TableFault, rows, in_table, clash_fault, TableKind, table_number, Used, Use as Purpose, to_canonicalise, to_maximise, to_chain, to_check, in_use, each, size_fault, shape_fault, free_fault, tables_of}
 use Rattle.table_check.specs.declared.Test.{Test}
 use Rattle.table_check.specs.declared.Test.TheVariants.{Size, Shape}
 use Rattle.table_check.specs.declared.Use.{Use}
 use Rattle.table_check.specs.declared.Use.TheVariants.{Canonicalise, Maximise, Chain, Check}
-use Rattle.table_check.specs.declared.Verdict.{Verdict}
-use Rattle.table_check.specs.declared.Verdict.TheVariants.{Good, Bad}
+use Rattle.table_check.specs.declared.Kind.{Kind}
+use Rattle.table_check.specs.declared.Kind.TheVariants.{Size as SizeKind, Shape as ShapeKind, Order, Clash}
+use Rattle.table_check.specs.declared.Fault.{Fault}
+use Rattle.row_shapes.specs.Rows.{kind_is}
 use Rattle.table_check.specs.Free.{free_row}
 
+-- the standard's number of what is wrong
+abbrev pub kind_number : Kind → ℕ
+kind_number SizeKind = 11
+kind_number ShapeKind = 12
+kind_number Order = 13
+kind_number Clash = 14
+
+-- the number of what is wrong with a table, and the table's number
+abbrev pub number_of : Fault → ℕ
+number_of f = kind_number f.kind
+
+abbrev pub table_of : Fault → ℕ
+table_of f = table_number (kind_is f.table)
+
 -- the standard's fault that an answer stands for: its number, its place and its table
-abbrev pub verdict_is : Verdict → Option TableFault
-verdict_is Good = none
-verdict_is (Bad number place table) = some (record { fault = record { number = number; place = place }; table = table })
+abbrev pub fault_of : Fault → TableFault
+fault_of f = record { fault = record { number = number_of f; place = f.place }; table = table_of f }
+
+abbrev pub verdict_is : Result ⊤ Fault → Option TableFault
+verdict_is (Ok done) = none
+verdict_is (Err f) = some (fault_of f)
 
 -- the standard's word for what the tables are used for
 abbrev pub use_is : Use → Purpose

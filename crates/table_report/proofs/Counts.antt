@@ -1,43 +1,50 @@
 -- Laws of counts, starts of lines and keys. Assumes nothing.
-use mathlib.Core.Path.{◌≡◌, refl, sym, ap, ◌∙◌}
-use mathlib.Core.List.{List}
-use Prim.Native.Nat.{ℕ, zero, suc, ◌+◌, ◌-◌, ◌≤◌, ◌<◌}
-use native.Mathlib.Numerals.{add-one}
+use mathlib.Core.Path.{◌≡◌, refl, ap, ◌∙◌}
+use mathlib.Core.Bool.{not}
+use mathlib.Core.List.{List, [], ◌∷◌, reverse}
+use Prim.Native.Nat.{ℕ, zero, suc, ◌+◌, ◌≤◌, ◌<◌}
 use native.Mathlib.Omega.{arith}
-use lib.ListN.{length, get_or, drop, drop_of_length-le}
-use lib.Seq.{drop-cons}
-use borrow.Author.Tests.{eq-eqb, ne_eqb, le-leb, lt-leb}
+use lib.ListN.{length, get_or}
+use borrow.Author.Tests.{le-leb, lt-leb, ltb-true, ltb-false}
+use Prim.Native.Nat.{min}
+use lib.Dec.{eqb, ltb}
+use Rattle.std.proofs.Common.{filter}
+use Rattle.std.specs.List.{take_while}
+use Rattle.std.proofs.lemmas.List.{reverse-append}
+use Rattle.std.proofs.lemmas.List.Sums.{take_while-cons}
+use lib.Seq.{take-suc}
+use lib.ListN.{take}
+use Rattle.standard.proofs.General.{bool_cases}
+use Rattle.table_report.specs.Cases.{by_length, capitals}
 use Rattle.byte_string.specs.Strings.{end_of}
 use Rattle.byte_string.proofs.Ends.{end-le}
 use Rattle.row_shapes.specs.Rows.{second_tab}
 use Rattle.table_report.specs.Faults.{hit_of, count_of, line_start}
 
--- the next byte counted, and the end
-module _ (b : ℕ) (s : List ℕ) (i : ℕ) where
-  pub count_next : i < length s → count_of b (drop i s) ≡ hit_of (get_or s i 0) b + count_of b (drop (i + 1) s)
-  unfolding count_of
-  count_next h = rw (add-one, drop-cons s i 0 h)
+-- the bytes that are counted, as std has them
+pub counts-is : (b : ℕ) (s : List ℕ) → length (filter (λ (x : ℕ). eqb x b) s) ≡ count_of b s
+unfolding count_of hit_of
+counts-is b [] = refl
+counts-is b (x ∷ s) = let i = counts-is b s in bool_cases (eqb x b) (λ e. rw e (omega arith)) (λ e. rw e (omega arith))
 
-  pub count-end : length s ≤ i → count_of b (drop i s) ≡ 0
-  unfolding count_of
-  count-end h = rw (drop_of_length-le s h)
+pub count_le : (b : ℕ) (s : List ℕ) → count_of b s ≤ length s
+unfolding count_of hit_of
+count_le b [] = omega arith
+count_le b (x ∷ s) = let i = count_le b s in bool_cases (eqb x b) (λ e. rw e (omega arith)) (λ e. rw e (omega arith))
 
--- a line starts behind a 0A, or at the front
-module _ (x : List ℕ) where
-  pub start-hit : (i : ℕ) → 0 < i → get_or x (i - 1) 0 ≡ 10 → line_start x i ≡ i
-  unfolding line_start
-  start-hit zero h e = absurd (omega arith)
-  start-hit (suc p) h e = let k : suc p - 1 ≡ p = omega arith in rw (eq-eqb (get_or x p 0) 10 (rw k at e))
+-- the capitals of the subtag that ends first
+pub capitals-least : (x : List ℕ) (a b m : ℕ) → a ≡ end_of 45 x 0 → b ≡ end_of 9 x 0 → m ≡ min a b → by_length m ≡ capitals x
+unfolding capitals
+capitals-least x a b m e f g = rw (← e, ← f) (bool_cases (ltb a b) (λ h. rw h (let k = ltb-true _ _ h in ap by_length (omega arith))) (λ h. rw h (let k = ltb-false _ _ h in ap by_length (omega arith))))
 
-  pub start-miss : (i : ℕ) → 0 < i → (get_or x (i - 1) 0 ≡ 10 → ⊥) → line_start x i ≡ line_start x (i - 1)
-  unfolding line_start
-  start-miss zero h f = absurd (omega arith)
-  start-miss (suc p) h f = let k : suc p - 1 ≡ p = omega arith in rw (k, ne_eqb (get_or x p 0) 10 (rw k at f))
-
-  pub start-front : (i : ℕ) → i ≤ 0 → 0 ≡ line_start x i
-  unfolding line_start
-  start-front zero h = refl
-  start-front (suc p) h = absurd (omega arith)
+-- a line starts behind the last 0A: what stands behind that is a run without it
+pub start-run : (x : List ℕ) (at : ℕ) → at ≤ length x → line_start x at + length (take_while (λ (b : ℕ). not (eqb b 10)) (reverse (take at x))) ≡ at
+unfolding line_start
+start-run x zero h = refl
+start-run x (suc p) h =
+    let i = start-run x p (omega arith) in
+    let r : reverse (take (suc p) x) ≡ get_or x p 0 ∷ reverse (take p x) = ap reverse (take-suc x p 0 (omega arith)) ∙ reverse-append (take p x) (get_or x p 0 ∷ []) in
+    rw (r, take_while-cons (λ (b : ℕ). not (eqb b 10)) (get_or x p 0) (reverse (take p x))) (bool_cases (eqb (get_or x p 0) 10) (λ e. rw e (omega arith)) (λ e. rw e (omega arith)))
 
 -- the second tab
 module _ (l : List ℕ) (a : ℕ) (e : a ≡ end_of 9 l 0) where

@@ -1,19 +1,17 @@
 -- Laws of what is wrong with a row. Assumes nothing.
-use mathlib.Core.Path.{◌≡◌, refl, sym, ap, ◌∙◌}
-use mathlib.Core.Bool.{Bool, true, false, not}
+use mathlib.Core.Path.{◌≡◌, sym, ◌∙◌}
+use mathlib.Core.Bool.{Bool}
 use mathlib.Core.List.{List}
 use Prim.Native.Nat.{ℕ, ◌-◌, ◌≤◌, ◌<◌}
 use native.Mathlib.Omega.{arith}
 use lib.ListN.{length, take, drop, get_or}
 use borrow.Author.Tests.{eq-eqb, ne_eqb, le-leb, lt-leb, lt-ltb, le-ltb}
-use Rattle.standard.specs.Grammar.{every}
 use Rattle.standard.specs.Tag.{same}
 use Rattle.byte_string.specs.Strings.{end_of}
 use Rattle.byte_string.proofs.Stores.{all_from}
 use Rattle.row_shapes.specs.declared.Table.{Table}
-use Rattle.table_report.specs.declared.Wrong.{Wrong}
-use Rattle.table_report.specs.declared.Wrong.TheVariants.{NoEnd, Empty, Return, NoTab, FewTabs, ManyTabs, Byte, Kind, Field, SameKey, Order}
-use Rattle.table_report.specs.Faults.{pick, row_in, count_of, fits, tabs_of, unknown_kind, field_fault, row_fault, shape_fault, line_start, row_before, key_of, order_fault}
+use Rattle.table_report.specs.declared.Wrong.TheVariants.{NoEnd, Empty, Return, NoTab, FewTabs, ManyTabs, SameKey, Order}
+use Rattle.table_report.specs.Faults.{pick, row_in, count_of, tabs_of, field_fault, row_fault, shape_fault, line_start, row_before, key_of, order_fault}
 
 -- the order of a row, as the code finds it and the row before
 pub order_is : (t : Table) (x : List ℕ) (place e s end : ℕ) (b : Bool) → e ≡ place - 1 → s ≡ line_start x e → end ≡ end_of 10 (take (length x - place) (drop place x)) 0

@@ -12,8 +12,12 @@ use Rattle.standard.specs.Grammar.{lower_byte}
 use Rattle.standard.specs.Reading.{Fault}
 use Rattle.standard.specs.Table.{rows, rows_fault, shape_of, is_none}
 use Rattle.byte_string.proofs.Stores.{all_from, front}
+use Rattle.std.specs.Prelude.{⊤, Result, Ok, Err}
+use Rattle.std.specs.Result.{is_ok}
+use Rattle.row_shapes.specs.declared.RowFault.{RowFault}
+use Rattle.row_shapes.specs.declared.RowFault.TheVariants.{Shape, Order}
 use Rattle.row_shapes.specs.declared.Table.{Table}
-use Rattle.row_shapes.specs.Rows.{kind_is}
+use Rattle.row_shapes.specs.Rows.{kind_is, fault_is}
 use Rattle.tsv.specs.Fields.{field}
 use Rattle.tsv.proofs.Laws.{ended, field-length}
 use Rattle.subtag.specs.Bytes.{cased_byte}
@@ -55,3 +59,10 @@ module _ (row buf o : List ℕ) (first end : ℕ) (r : length row + 1 ≤ length
   pub passes-is : (t : Table) (f : Option Fault) (b : Bool) → b ≡ is_none f → first ≡ first_of t row → f ≡ rows_fault (shape_of (kind_is t)) none 0 (rows (take (end + 1) (set o end 10))) → b ≡ passes t row
   unfolding passes
   passes-is t f b h i j = h ∙ ap is_none (rw judged-text at j) ∙ rw i
+
+-- the answer that is good
+pub good-ok : (r : Result ⊤ RowFault) → is_ok r ≡ is_none (fault_is r)
+unfolding is_none
+good-ok (Ok done) = refl
+good-ok (Err (Shape at)) = refl
+good-ok (Err (Order at)) = refl

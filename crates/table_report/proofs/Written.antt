@@ -1,12 +1,14 @@
 -- Laws of what is written of a verdict. Assumes nothing.
-use mathlib.Core.Path.{◌≡◌, refl, sym, ap, ◌∙◌}
+use mathlib.Core.Path.{◌≡◌, refl}
 use mathlib.Core.Bool.{true, false}
-use mathlib.Core.List.{List, [], ◌∷◌, ◌++◌, append_assoc}
+use mathlib.Core.List.{List, [], ◌++◌, append_assoc}
 use Prim.Native.Nat.{ℕ, ◌+◌, ◌-◌, ◌≤◌, ◌<◌}
 use native.Mathlib.Omega.{arith}
 use lib.ListN.{length, take, drop}
-use lib.Seq.{sets}
-use borrow.Author.Tests.{eq-eqb, ne_eqb, le-leb, lt-leb}
+use borrow.Author.Tests.{eq-eqb, ne_eqb, le-leb, lt-leb, ltb-true, ltb-false}
+use Prim.Native.Nat.{min}
+use lib.Dec.{ltb}
+use Rattle.standard.proofs.General.{bool_cases}
 use Rattle.standard.specs.Tag.{text}
 use Rattle.byte_string.specs.Strings.{Writes, WritesWithin}
 use Rattle.byte_string.proofs.Stores.{wrote-two, all_from}
@@ -91,6 +93,11 @@ module _ (n : ℕ) (t : Table) (x : List ℕ) (p : ℕ) where
       (u.0, u.1, omega (arith, a.2, b.2, c.2))
 
 -- the whole line
+-- a place beyond the end
+pub spot-least : (len place s : ℕ) → s ≡ min place len → s ≡ spot len place
+unfolding spot
+spot-least len place s e = bool_cases (ltb len place) (λ h. rw h (let k = ltb-true _ _ h in omega arith)) (λ h. rw h (let k = ltb-false _ _ h in omega arith))
+
 pub line-written : (n p named : ℕ) (t : Table) (x o o₁ o₂ : List ℕ) (at s e : ℕ) → WritesWithin 90 o 0 (verdict_text n p named) at o₁ → s ≡ spot (length x) p
     → WritesWithin (at + 1195) o₁ at (rest_text n t x s) e o₂ → WritesWithin 1285 o 0 (line_text n p named t x) e o₂
 unfolding line_text

@@ -1,6 +1,6 @@
 -- A row in canonical case: language and variants in small letters, a script with a capital in front, a region in capitals.
 -- Assumes nothing.
-use Rattle.std.specs.Prelude.{Bool, true, false, cond, List, [], ◌∷◌, ℕ, ◌-◌, eqb, ltb, length, take}
+use Rattle.std.specs.Prelude.{Bool, false, cond, List, [], ◌∷◌, ℕ, ◌-◌, eqb, ltb, length, take, Option, Some, None}
 use Rattle.std.proofs.Math.Option.{none}
 use Rattle.standard.specs.Grammar.{lower_byte}
 use Rattle.standard.specs.Table.{rows, rows_fault, shape_of, is_none}
@@ -9,7 +9,7 @@ use Rattle.subtag.specs.Bytes.{cased_byte}
 use Rattle.row_shapes.specs.declared.Table.{Table}
 use Rattle.row_shapes.specs.declared.Table.TheVariants.{Aliases, Likely, Parents}
 use Rattle.row_shapes.specs.declared.aliases.AliasKind.{AliasKind}
-use Rattle.row_shapes.specs.declared.aliases.AliasKind.TheVariants.{Language, Script, Region, Variant, Unknown}
+use Rattle.row_shapes.specs.declared.aliases.AliasKind.TheVariants.{Language, Script, Region, Variant}
 use Rattle.row_shapes.specs.Rows.{kind_named, kind_is}
 use Rattle.tsv.specs.Fields.{field}
 
@@ -18,12 +18,12 @@ abbrev Bytes : Type 0
 Bytes = List ℕ
 
 -- how many bytes of a field's first subtag are capitals: that of a script alias is a script, that of a region alias a region
-abbrev pub first_in : AliasKind → ℕ
-first_in Language = 0
-first_in Script = 1
-first_in Region = 2
-first_in Variant = 0
-first_in Unknown = 0
+abbrev pub first_in : Option AliasKind → ℕ
+first_in None = 0
+first_in (Some Language) = 0
+first_in (Some Script) = 1
+first_in (Some Region) = 2
+first_in (Some Variant) = 0
 
 -- the same in a row
 unfoldable pub first_of : Table → Bytes → ℕ

@@ -1,12 +1,11 @@
 -- What is wrong with a row that the check of the tables refuses with 12 or 13. Assumes nothing.
-use Rattle.std.specs.Prelude.{Bool, true, false, cond, not, ◌||◌, List, [], ◌∷◌, ℕ, zero, suc, ◌+◌, ◌-◌, eqb, leb, ltb, length, take, drop, get_or}
+use Rattle.std.specs.Prelude.{Bool, true, false, cond, not, ◌||◌, List, [], ◌∷◌, ℕ, zero, suc, ◌+◌, ◌-◌, eqb, leb, ltb, length, take, drop, get_or, Option, Some, None}
 use Rattle.standard.specs.Tag.{same}
 use Rattle.standard.specs.Grammar.{small, capital, digit, every}
 use Rattle.byte_string.specs.Strings.{end_of}
 use Rattle.row_shapes.specs.declared.Table.{Table}
 use Rattle.row_shapes.specs.declared.Table.TheVariants.{Aliases, Likely, Parents}
 use Rattle.row_shapes.specs.declared.aliases.AliasKind.{AliasKind}
-use Rattle.row_shapes.specs.declared.aliases.AliasKind.TheVariants.{Language, Script, Region, Variant, Unknown}
 use Rattle.row_shapes.specs.Rows.{kind_named, key_end}
 use Rattle.table_report.specs.Cases.{wrong_case}
 use Rattle.table_report.specs.declared.Wrong.{Wrong}
@@ -45,12 +44,9 @@ tabs_of Likely = 1
 tabs_of Parents = 1
 
 -- whether it is no kind of alias
-abbrev pub is_unknown : AliasKind → Bool
-is_unknown Language = false
-is_unknown Script = false
-is_unknown Region = false
-is_unknown Variant = false
-is_unknown Unknown = true
+abbrev pub is_unknown : Option AliasKind → Bool
+is_unknown None = true
+is_unknown (Some k) = false
 
 -- whether a row is an alias of no kind
 unfoldable pub unknown_kind : Table → Bytes → Bool

@@ -13,7 +13,7 @@ ghost use Rattle.std.proofs.lemmas.List.Edits.{sets};
 ghost use Rattle.byte_string.specs.Strings.{WritesWithin};
 ghost use Rattle.tsv.specs.Fields.{decimal, field};
 ghost use Rattle.tsv.specs.Shown.{shown};
-ghost use Rattle.table_report.specs.Line.{names_row, line_of, row_for, meant_text, verdict_text, rest_text, line_text, spot, told};
+ghost use Rattle.table_report.specs.Line.{names_row, line_of, row_for, meant_text, verdict_text, rest_text, line_text, told};
 
 use meaning::put_meaning;
 use order::order_fault;
@@ -24,7 +24,7 @@ use tsv::{put, put_number, put_shown};
 use words::put_told;
 
 // What can be wrong with a row: of shape (12), then of order (13).
-#[derive(Clone, Copy)]
+#[derive(Clone, Copy, PartialEq, Eq)]
 pub enum Wrong {
     NoEnd,
     Empty,
@@ -41,13 +41,11 @@ pub enum Wrong {
 }
 
 // Does the number name a row?
+#[tactic(auto, unfolding(crate::specs::Line::names_row))]
 fn names_row(number: u8) -> bool
     ensures { result ≡ names_row number }
 {
-    if number == 0 {
-        return false;
-    }
-    number != 11
+    !matches!(number, 0 | 11)
 }
 
 // Writes the first four fields at the front of out, and gives the next place.
@@ -90,13 +88,11 @@ fn put_meant(number: u8, table: Table, x: &[u8], place: usize, out: &mut [u8], a
     requires { (place ≤ length x.now) × (at + 150 ≤ length out.old) }
     ensures { WritesWithin (at + 150) out.old at (field (meant_text number table x.now place) 10) result out.new }
 {
-    if number == 12 {
-        return put_told(12, shape_fault(table, &x[place..]), out, at);
+    match number {
+        12 => put_told(12, shape_fault(table, &x[place..]), out, at),
+        13 => put_told(13, order_fault(table, x, place), out, at),
+        _ => put_meaning(number, b'\n', out, at),
     }
-    if number == 13 {
-        return put_told(13, order_fault(table, x, place), out, at);
-    }
-    put_meaning(number, b'\n', out, at)
 }
 
 // Writes the last three fields.
@@ -109,23 +105,14 @@ fn put_rest(number: u8, table: Table, x: &[u8], place: usize, out: &mut [u8], at
     put_meant(number, table, x, place, out, q)
 }
 
-// A place beyond the table counts as its end.
-fn spot_in(len: usize, place: usize) -> usize
-    ensures { (result ≡ spot len place) × (result ≤ len) }
-{
-    if len < place {
-        return len;
-    }
-    place
-}
-
-// Writes the line of a verdict on the table x, whose number is named, at the front of out.
+// Writes the line of a verdict on the table x, whose number is named, at the front of out. A place beyond the table counts
+// as its end.
 fn write_of(number: u8, place: usize, named: u8, table: Table, x: &[u8], out: &mut [u8]) -> usize
     requires { 2048 ≤ length out.old }
     ensures { WritesWithin 1285 out.old 0 (line_text number place named table x.now) result out.new }
 {
     let at = put_verdict(number, place, named, out);
-    put_rest(number, table, x, spot_in(x.len(), place), out, at)
+    put_rest(number, table, x, place.min(x.len()), out, at)
 }
 
 // Writes the line of a verdict at the front of out and gives its length; 0 and nothing written where out has fewer than 2048
@@ -146,11 +133,9 @@ pub fn write(
     if out.len() < 2048 {
         return 0;
     }
-    if table == 1 {
-        return write_of(number, place, table, Table::Aliases, aliases, out);
+    match table {
+        1 => write_of(number, place, table, Table::Aliases, aliases, out),
+        2 => write_of(number, place, table, Table::Likely, likely, out),
+        _ => write_of(number, place, table, Table::Parents, parents, out),
     }
-    if table == 2 {
-        return write_of(number, place, table, Table::Likely, likely, out);
-    }
-    write_of(number, place, table, Table::Parents, parents, out)
 }

@@ -1,5 +1,5 @@
 // What is wrong with a row that is not above the one before (13).
-ghost use Rattle.std.specs.Prelude.{◌≡◌, ◌-◌, ◌≤◌, length};
+ghost use Rattle.std.specs.Prelude.{◌≡◌, ◌≤◌, length};
 ghost use Rattle.standard.specs.Tag.{same};
 ghost use Rattle.byte_string.specs.Strings.{end_of};
 ghost use Rattle.row_shapes.specs.Rows.{second_tab, key_end};
@@ -15,20 +15,21 @@ fn second_tab(line: &[u8]) -> usize
     ensures { let line = line.entry.now in (result ≡ second_tab line (end_of 9 line 0)) × (result ≤ length line) }
 {
     let a = end_of(line, b'\t', 0);
-    if line.len() <= a {
-        return a;
+    if a < line.len() {
+        end_of(line, b'\t', a + 1)
+    } else {
+        a
     }
-    end_of(line, b'\t', a + 1)
 }
 
 // Where the key of a row ends.
+#[tactic(auto, unfolding(row_shapes::specs::Rows::key_end))]
 fn key_end(table: Table, line: &[u8]) -> usize
     ensures { let line = line.entry.now in (result ≡ key_end table line) × (result ≤ length line) }
 {
     match table {
         Table::Aliases => second_tab(line),
-        Table::Likely => end_of(line, b'\t', 0),
-        Table::Parents => end_of(line, b'\t', 0),
+        Table::Likely | Table::Parents => end_of(line, b'\t', 0),
     }
 }
 
@@ -41,27 +42,18 @@ fn same_key(table: Table, a: &[u8], b: &[u8]) -> bool
     byte_string::same(&a[..m], &b[..n])
 }
 
-// The place before a place.
-fn before(place: usize) -> usize
-    ensures { result ≡ place - 1 }
-{
-    if place == 0 {
-        return 0;
-    }
-    place - 1
-}
-
 // What is wrong with the order of the row that starts at the place, behind the 0A of the row before.
 pub(crate) fn order_fault(table: Table, x: &[u8], place: usize) -> Wrong
     requires { place ≤ length x.now }
     ensures { result ≡ order_fault table x.now place }
 {
-    let e = before(place);
+    let e = place.saturating_sub(1);
     let s = line_start(x, e);
     let rest = &x[place..];
     let end = end_of(rest, b'\n', 0);
     if same_key(table, &x[s..e], &rest[..end]) {
-        return Wrong::SameKey;
+        Wrong::SameKey
+    } else {
+        Wrong::Order
     }
-    Wrong::Order
 }

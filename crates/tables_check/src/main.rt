@@ -4,11 +4,14 @@
 #![tactic(auto)]
 
 ghost use Rattle.std.specs.Prelude.{◌≡◌, length};
+ghost use Rattle.operations.specs.Answer.{answer_by, checked_is};
 ghost use Rattle.tables_check.specs.Tells.{Tells};
 
+use operations::delivery::Answer;
 use program_io::{Run, Status, Streams, buffer, end, finish, input, load_table, output};
 use std::io::Stdout;
 use std::process::ExitCode;
+use table_check::Fault;
 
 // Room for the line.
 fn line_buffer() -> [u8; 2048]
@@ -17,14 +20,44 @@ fn line_buffer() -> [u8; 2048]
     [0; 2048]
 }
 
+// Number, place and table of what is wrong with the tables, all 0 where nothing is.
+fn verdict_of(checked: Result<(), Fault>) -> Answer
+    ensures { result ≡ answer_by (checked_is checked) }
+{
+    match checked {
+        Ok(()) => Answer {
+            number: 0,
+            place: 0,
+            table: 0,
+            len: 0,
+            steps: 0,
+        },
+        Err(fault) => Answer {
+            number: fault.number(),
+            place: fault.place,
+            table: fault.table_number(),
+            len: 0,
+            steps: 0,
+        },
+    }
+}
+
 // Checks the tables, and prints the line.
 fn run(stdout: Stdout, aliases: &[u8], likely: &[u8], parents: &[u8]) -> Run
     ensures { Tells aliases.now likely.now parents.now result }
 {
-    let v = altazhbey::check(aliases, likely, parents);
-    let number = v.number;
+    let verdict = verdict_of(altazhbey::check(aliases, likely, parents));
+    let number = verdict.number;
     let mut out = line_buffer();
-    let len = table_report::write(number, v.place, v.table, aliases, likely, parents, &mut out);
+    let len = table_report::write(
+        number,
+        verdict.place,
+        verdict.table,
+        aliases,
+        likely,
+        parents,
+        &mut out,
+    );
     let output = output::print(stdout, output::begin(), &out[..len]);
     Run {
         number,
@@ -39,24 +72,27 @@ fn main(rt: HostRuntime) -> ExitCode {
         stdout: rt.stdout(),
         stderr: rt.stderr(),
     };
-    let mut a = buffer();
-    let mut l = buffer();
-    let mut p = buffer();
-    let x = load_table(&rt, streams.stderr, b"tables_check", "aliases.tsv", &mut a);
-    if !x.read {
+    let stderr = streams.stderr;
+    let mut aliases = buffer();
+    let mut likely = buffer();
+    let mut parents = buffer();
+    let Some(aliases_len) = load_table(&rt, stderr, b"tables_check", "aliases.tsv", &mut aliases)
+    else {
         return finish(&rt, Status::Failed);
-    }
-    let y = load_table(&rt, streams.stderr, b"tables_check", "likely.tsv", &mut l);
-    if !y.read {
+    };
+    let Some(likely_len) = load_table(&rt, stderr, b"tables_check", "likely.tsv", &mut likely)
+    else {
         return finish(&rt, Status::Failed);
-    }
-    let z = load_table(&rt, streams.stderr, b"tables_check", "parents.tsv", &mut p);
-    if !z.read {
+    };
+    let Some(parents_len) = load_table(&rt, stderr, b"tables_check", "parents.tsv", &mut parents)
+    else {
         return finish(&rt, Status::Failed);
-    }
-    let a_len = x.len;
-    let l_len = y.len;
-    let p_len = z.len;
-    let r = run(streams.stdout, &a[..a_len], &l[..l_len], &p[..p_len]);
-    end(&rt, streams.stderr, b"tables_check", r)
+    };
+    let r = run(
+        streams.stdout,
+        &aliases[..aliases_len],
+        &likely[..likely_len],
+        &parents[..parents_len],
+    );
+    end(&rt, stderr, b"tables_check", r)
 }

@@ -1,3 +1,2 @@
-pub mod Coded
 pub mod Repeated
 pub mod Told

@@ -1,6 +1,6 @@
 -- An operation done again on its own output gives the same answer and leaves the same bytes. Assumes nothing.
 use mathlib.Core.Path.{◌≡◌, refl, sym, ap, ◌∙◌}
-use mathlib.Core.Bool.{Bool, true, false}
+use mathlib.Core.Bool.{Bool, true, false, cond}
 use mathlib.Core.List.{[], ◌++◌}
 use mathlib.Core.Option.{none}
 use Prim.Native.Nat.{ℕ, ◌≤◌}
@@ -15,11 +15,15 @@ use Rattle.standard.specs.Reading.{read}
 use Rattle.standard.specs.Table.{tables_of, check, to_canonicalise, to_maximise, to_chain}
 use Rattle.standard.specs.Make.{make, chain_from, canonicalise_made, maximise_made, minimise_made, list_made, after_check}
 use Rattle.standard.proofs.General.{true→T}
-use Rattle.table_check.specs.declared.Verdict.{Verdict}
-use Rattle.table_check.specs.declared.Verdict.TheVariants.{Bad}
+use Rattle.std.specs.Prelude.{Result, Err, ⊤}
+use Rattle.table.specs.Search.{Sorted}
+use Rattle.table_check.specs.declared.Fault.{Fault}
 use Rattle.table_check.specs.Verdicts.{verdict_is}
-use Rattle.operations.specs.declared.delivery.Answer.{Answer}
-use Rattle.operations.specs.Answer.{answer_of, refused_answer}
+use Rattle.operations.specs.declared.delivery.Done.{Done}
+use Rattle.operations.specs.declared.delivery.Refusal.{Refusal}
+use Rattle.operations.specs.declared.delivery.Refusal.TheVariants.{Table}
+use Rattle.operations.specs.Answer.{answer_by, given_is}
+use Rattle.operations.proofs.Wholes.{sorted-aliases}
 use Rattle.operations.proofs.Delivers.{after-good, table-stands}
 use Rattle.operations.specs.Both.{operation_of}
 use Rattle.operations.proofs.CompleteChecked as likely
@@ -28,10 +32,6 @@ use Rattle.c_api.specs.Packed.{packed, unpacked}
 use Rattle.c_api.proofs.Sizes.{Small, canonicalise-small, maximise-small, minimise-small, list-small}
 use Rattle.c_api.proofs.Packs.{unpacks}
 use Rattle.test_api.specs.Exported.{check_for, made_for}
-use Rattle.operations.specs.declared.complete.Answered.{Answered as LikelyAnswered}
-use Rattle.operations.specs.Completed.{given_answered as given_likely, answer_by as likely_answer}
-use Rattle.operations.specs.declared.chain.Answered.{Answered as ChainAnswered}
-use Rattle.operations.specs.Chained.{given_answered as given_chain, answer_by as chain_answer}
 
 given-twice : (m : Made) (out : Bytes) → given m (given m out).output ≡ given m out
 unfolding given
@@ -70,32 +70,43 @@ module _ (o : ℕ) (A B : Bytes) where
   unfolding check_for
   check-3 h k l = rw (ne_eqb o 0 h, ne_eqb o 1 k, ne_eqb o 2 l)
 
-  module _ (x out out' : Bytes) (a : Answer) (r : ℕ) (p : r ≡ packed a) (pass : check_for o A B ≡ none) where
-    pub once-0 : o ≡ 0 → answer_of a out' ≡ given (make (tables_of A [] []) canonicalise x) out → unpacked r out' ≡ given (made_for o A B x) out
+  module _ (x out out' : Bytes) (a : Result Done Refusal) (r : ℕ) (p : r ≡ packed (answer_by a)) (pass : check_for o A B ≡ none) where
+    pub once-0 : o ≡ 0 → given_is a out' ≡ given (make (tables_of A [] []) canonicalise x) out → unpacked r out' ≡ given (made_for o A B x) out
     unfolding made_for
     once-0 e f =
         let g = sym (check-0 e) ∙ pass in
         unpacks _ a r out out' (canonicalise-small A x) p (f ∙ ap (λ (m : Made). given m out) (sym (after-good A x g))) ∙ ap (λ (m : Made). given m out) (sym (rw (eq-eqb o 0 e)))
 
-    pub once-1 : (b : LikelyAnswered) → (o ≡ 0 → ⊥) → o ≡ 1 → a ≡ likely_answer b → given_likely b out' ≡ given (make (tables_of A B []) (operation_of false) x) out → unpacked r out' ≡ given (made_for o A B x) out
+    pub once-1 : (o ≡ 0 → ⊥) → o ≡ 1 → given_is a out' ≡ given (make (tables_of A B []) (operation_of false) x) out → unpacked r out' ≡ given (made_for o A B x) out
     unfolding made_for
-    once-1 b h e q f =
+    once-1 h e f =
         let g = sym (check-1 h e) ∙ pass in
-        unpacks _ a r out out' (maximise-small A B x) p (likely.whole-answer false A B x b a out out' g q f ∙ ap (λ (m : Made). given m out) (likely.whole-maximised A B x))
+        unpacks _ a r out out' (maximise-small A B x) p (likely.whole-answer false A B x a out out' g f ∙ ap (λ (m : Made). given m out) (likely.whole-maximised A B x))
         ∙ ap (λ (m : Made). given m out) (sym (rw (ne_eqb o 0 h, eq-eqb o 1 e)))
 
-    pub once-2 : (b : LikelyAnswered) → (o ≡ 0 → ⊥) → (o ≡ 1 → ⊥) → o ≡ 2 → a ≡ likely_answer b → given_likely b out' ≡ given (make (tables_of A B []) (operation_of true) x) out → unpacked r out' ≡ given (made_for o A B x) out
+    pub once-2 : (o ≡ 0 → ⊥) → (o ≡ 1 → ⊥) → o ≡ 2 → given_is a out' ≡ given (make (tables_of A B []) (operation_of true) x) out → unpacked r out' ≡ given (made_for o A B x) out
     unfolding made_for
-    once-2 b h k e q f =
+    once-2 h k e f =
         let g = sym (check-2 h k e) ∙ pass in
-        unpacks _ a r out out' (minimise-small A B x) p (likely.whole-answer true A B x b a out out' g q f ∙ ap (λ (m : Made). given m out) (likely.whole-minimised A B x))
+        unpacks _ a r out out' (minimise-small A B x) p (likely.whole-answer true A B x a out out' g f ∙ ap (λ (m : Made). given m out) (likely.whole-minimised A B x))
         ∙ ap (λ (m : Made). given m out) (sym (rw (ne_eqb o 0 h, ne_eqb o 1 k, eq-eqb o 2 e)))
 
-    pub once-3 : (b : ChainAnswered) → (o ≡ 0 → ⊥) → (o ≡ 1 → ⊥) → (o ≡ 2 → ⊥) → a ≡ chain_answer b → given_chain b out' ≡ given (chain_from (tables_of A [] B) (read x)) out → unpacked r out' ≡ given (made_for o A B x) out
+    pub once-3 : (o ≡ 0 → ⊥) → (o ≡ 1 → ⊥) → (o ≡ 2 → ⊥) → given_is a out' ≡ given (chain_from (tables_of A [] B) (read x)) out → unpacked r out' ≡ given (made_for o A B x) out
     unfolding made_for
-    once-3 b h k l q f =
+    once-3 h k l f =
         let g = sym (check-3 h k l) ∙ pass in
-        unpacks _ a r out out' (list-small A B x) p (parents.whole-answer A B x b a out out' g q f) ∙ ap (λ (m : Made). given m out) (sym (rw (ne_eqb o 0 h, ne_eqb o 1 k, ne_eqb o 2 l)))
+        unpacks _ a r out out' (list-small A B x) p (parents.whole-answer A B x a out out' g f) ∙ ap (λ (m : Made). given m out) (sym (rw (ne_eqb o 0 h, ne_eqb o 1 k, ne_eqb o 2 l)))
+
+  -- the aliases, which each operation tests, ascend
+  pub sorted-for : check_for o A B ≡ none → Sorted A
+  unfolding check_for
+  sorted-for e = go (eqb o 0) (eqb o 1) (eqb o 2) e
+    where
+      go : (a b c : Bool) → cond a (check to_canonicalise A [] []) (cond b (check to_maximise A B []) (cond c (check to_maximise A B []) (check to_chain A [] B))) ≡ none → Sorted A
+      go true b c q = sorted-aliases A q
+      go false true c q = (likely.tested-both A B q).aliases.sorted
+      go false false true q = (likely.tested-both A B q).aliases.sorted
+      go false false false q = (parents.tested-chain A B q).aliases.sorted
 
 -- What an operation makes, its tables' refusals in front.
 unfoldable Afters : ℕ → Bytes → Bytes → Bytes → Type 0
@@ -122,9 +133,9 @@ small-for o A B x = go (eqb o 0) (eqb o 1) (eqb o 2) refl refl refl
     go false false false e f g = rw (e, f, g) (list-small A B x)
 
 -- a table's refusal stands
-pub refused-for : {n q t : ℕ} (o : ℕ) (A B x out : Bytes) (v : Verdict) (a : Answer) (r : ℕ) → v ≡ Bad n q t → r ≡ packed a → a ≡ refused_answer n q t → verdict_is v ≡ check_for o A B
+pub refused-for : (o : ℕ) (A B x out : Bytes) (v : Result ⊤ Fault) (f : Fault) (r : ℕ) → v ≡ Err f → r ≡ packed (answer_by (Err (Table f))) → verdict_is v ≡ check_for o A B
     → unpacked r out ≡ given (made_for o A B x) out
 unfolding Afters
-refused-for o A B x out v a r e p q f =
+refused-for o A B x out v f r e p q =
     let w = after-for o A B x in
-    unpacks (made_for o A B x) a r out out (small-for o A B x) p (table-stands v (check_for o A B) w.0 out a e q f ∙ ap (λ (m : Made). given m out) (sym w.1))
+    unpacks (made_for o A B x) (Err (Table f)) r out out (small-for o A B x) p (table-stands v f (check_for o A B) w.0 out e q ∙ ap (λ (m : Made). given m out) (sym w.1))

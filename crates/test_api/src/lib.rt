@@ -7,15 +7,16 @@ pub mod reads;
 pub mod repeats;
 pub mod words;
 
-ghost use Rattle.std.specs.Prelude.{◌≡◌, ◌+◌, ◌*◌, ◌%◌, ◌<◌};
+ghost use Rattle.std.specs.Prelude.{◌≡◌};
 ghost use Rattle.standard.specs.Table.{located, check as checkOf, to_check};
 ghost use Rattle.table.specs.Lines.{found_is};
 ghost use Rattle.table.specs.Search.{Sorted};
 ghost use Rattle.table_check.specs.Verdicts.{verdict_is};
 ghost use Rattle.test_api.specs.Codes.{found_code, fault_code};
 
-use table::hints::{few, fill_hints, find_hinted, many};
-use table_check::Verdict;
+use std::ops::Range;
+use table::hints::{few, fill_hints, find_by, many, slot_from};
+use table_check::Fault;
 
 // Bit 0: found; 1 to 31: where the value starts; 32 to 62: its length. All ones where these do not fit.
 #[unsafe(no_mangle)]
@@ -33,42 +34,37 @@ pub extern "C" fn probe_sorted(t: &[u8], key: &[u8]) -> u64
     code_found(table::find_sorted(t, key))
 }
 
-// The same by hints, which are made for this one key: few of a small table, as the check has them.
+// The same by hints, which are made for this one key: few of a small table, as the check has them. The table is any, so
+// it is no IndexedTable.
 #[unsafe(no_mangle)]
 pub extern "C" fn probe_hinted(t: &[u8], key: &[u8]) -> u64
     ensures { Sorted t.now → result ≡ found_code (located t.now key.now) }
 {
+    let slot = slot_from(0, key);
     if t.len() <= 2048 {
         let mut hints = few();
         fill_hints(t, &mut hints);
-        return code_found(find_hinted(t, &hints, key));
+        code_found(find_by(t, hints[slot % 1024] as usize, key))
+    } else {
+        let mut hints = many();
+        fill_hints(t, &mut hints);
+        code_found(find_by(t, hints[slot] as usize, key))
     }
-    let mut hints = many();
-    fill_hints(t, &mut hints);
-    code_found(find_hinted(t, &hints, key))
 }
 
-fn code_found(f: table::Found) -> u64
-    ensures { result ≡ found_code (found_is f) }
+#[tactic(auto, unfolding(crate::specs::Codes::found_code))]
+fn code_found(found: Option<Range<usize>>) -> u64
+    ensures { result ≡ found_code (found_is found) }
 {
-    let start = f.start;
-    let len = f.len;
-    if 2147483648 <= start {
-        return 18446744073709551615;
+    let Some(value) = found else {
+        return 0;
+    };
+    let start = value.start;
+    let len = value.end.saturating_sub(start);
+    if 2147483648 <= start || 2147483648 <= len {
+        return u64::MAX;
     }
-    if 2147483648 <= len {
-        return 18446744073709551615;
-    }
-    if f.found {
-        return 1 + start as u64 * 2 + len as u64 * 4294967296;
-    }
-    start as u64 * 2 + len as u64 * 4294967296
-}
-
-pub fn wide(b: u8) -> u64
-    ensures { (result ≡ b) × (result < 256) }
-{
-    b as u64
+    1 + start as u64 * 2 + len as u64 * 4294967296
 }
 
 // Bits 0 to 7: the number; 8 to 15: the table; 16 to 31: the place.
@@ -79,13 +75,16 @@ pub extern "C" fn probe_check(a: &[u8], l: &[u8], p: &[u8]) -> u64
     code_verdict(table_check::check(a, l, p))
 }
 
-fn code_verdict(v: Verdict) -> u64
-    ensures { result ≡ fault_code (verdict_is v) }
+#[tactic(auto, unfolding(crate::specs::Codes::fault_code))]
+fn code_verdict(checked: Result<(), Fault>) -> u64
+    ensures { result ≡ fault_code (verdict_is checked) }
 {
-    match v {
-        Verdict::Good => 0,
-        Verdict::Bad(number, place, table) => wide(number)
-            + wide(table) * 256
-            + (place % 65536) as u64 * 65536,
+    match checked {
+        Ok(()) => 0,
+        Err(fault) => {
+            let number = u64::from(fault.number());
+            let table = u64::from(fault.table_number());
+            number + table * 256 + (fault.place % 65536) as u64 * 65536
+        }
     }
 }

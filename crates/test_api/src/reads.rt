@@ -7,10 +7,13 @@ ghost use Rattle.test_api.specs.Codes.{report_code};
 fn read_once(id: &[u8]) -> u64
     ensures { result ≡ report_code (report id.now) }
 {
-    let r = reader::report::read(id);
-    let number = r.number;
-    let place = r.place;
-    crate::wide(number) + (place % 65536) as u64 * 65536
+    match reader::report::read(id) {
+        Ok(_) => 0,
+        Err(why) => {
+            let fault = reader::fault_of(why);
+            u64::from(fault.number) + (fault.place % 65536) as u64 * 65536
+        }
+    }
 }
 
 #[unsafe(no_mangle)]
@@ -18,10 +21,8 @@ pub extern "C" fn probe_read(id: &[u8], times: u32) -> u64
     ensures { result ≡ report_code (report id.now) }
 {
     let mut r = read_once(id);
-    let mut k: u32 = 0;
-    while k < times {
+    for _ in 0..times {
         r = read_once(id);
-        k += 1;
     }
     r
 }

@@ -11,77 +11,71 @@ ghost use Rattle.test_api.specs.Exported.{check_for, made_for};
 use c_api::pack;
 use operations::canonicalise::canonicalise_tested;
 use operations::chain::chain_tested;
-use operations::complete::form_hinted;
-use operations::delivery::refuse;
-use table::hints::{fill_hints, many};
-use table_check::Verdict;
+use operations::complete::form_tested;
+use operations::delivery::Refusal;
+use operations::tables::tested;
+use table::hints::{IndexedTable, fill_hints, indexed, many};
+use table_check::{Fault, check_aliases, check_likely, check_parents};
 
-// The check of the tables that the operation uses.
-fn check_for(operation: u8, aliases: &[u8], other: &[u8]) -> Verdict
+// The check of the tables that the operation uses. The number of an operation is the harness's.
+#[tactic(auto, unfolding(crate::specs::Exported::check_for))]
+fn check_for(operation: u8, aliases: &[u8], other: &[u8]) -> Result<(), Fault>
     ensures { verdict_is result ≡ check_for operation aliases.now other.now }
 {
-    if operation == 0 {
-        return table_check::check_aliases(aliases);
+    match operation {
+        0 => check_aliases(aliases),
+        1 | 2 => check_likely(aliases, other),
+        _ => check_parents(aliases, other),
     }
-    if operation == 1 {
-        return table_check::check_likely(aliases, other);
-    }
-    if operation == 2 {
-        return table_check::check_likely(aliases, other);
-    }
-    table_check::check_parents(aliases, other)
 }
 
-// The operation over tables that passed, each with its hints.
+// The operation over tables that passed, each with its hints. Canonicalising has not tested the other table, which is
+// thus no IndexedTable.
 fn once(
     operation: u8,
     id: &[u8],
-    aliases: &[u8],
-    alias_hints: &[u16],
+    aliases: IndexedTable,
     other: &[u8],
     other_hints: &[u16],
     out: &mut [u8],
 ) -> u64
-    requires { (check_for operation aliases.now other.now ≡ none) × Hinted aliases.now alias_hints.now × Hinted other.now other_hints.now }
-    ensures { let out' = out.exit.now in let aliases = aliases.entry.now in let other = other.entry.now in let id = id.entry.now in
+    requires { (check_for operation aliases.rows.now other.now ≡ none) × Hinted other.now other_hints.now }
+    ensures { let out' = out.exit.now in let aliases = aliases.entry.rows.now in let other = other.entry.now in let id = id.entry.now in
         let out = out.entry.now in
         unpacked result out' ≡ given (made_for operation aliases other id) out }
 {
-    if operation == 0 {
-        return pack(canonicalise_tested(id, aliases, alias_hints, out));
+    match operation {
+        0 => pack(canonicalise_tested(id, aliases, out)),
+        1 => {
+            let tables = tested(aliases, indexed(other, other_hints));
+            pack(form_tested(false, id, tables, out))
+        }
+        2 => {
+            let tables = tested(aliases, indexed(other, other_hints));
+            pack(form_tested(true, id, tables, out))
+        }
+        _ => pack(chain_tested(id, aliases, other, out)),
     }
-    if operation == 1 {
-        let a = form_hinted(false, id, aliases, alias_hints, other, other_hints, out);
-        return pack(operations::complete::answer(a));
-    }
-    if operation == 2 {
-        let a = form_hinted(true, id, aliases, alias_hints, other, other_hints, out);
-        return pack(operations::complete::answer(a));
-    }
-    pack(operations::chain::answer(chain_tested(id, aliases, other, out)))
 }
 
 // The operation once and so many times more.
 fn repeated(
     operation: u8,
     id: &[u8],
-    aliases: &[u8],
-    alias_hints: &[u16],
+    aliases: IndexedTable,
     other: &[u8],
     other_hints: &[u16],
     out: &mut [u8],
     times: u32,
 ) -> u64
-    requires { (check_for operation aliases.now other.now ≡ none) × Hinted aliases.now alias_hints.now × Hinted other.now other_hints.now }
-    ensures { let out' = out.exit.now in let aliases = aliases.entry.now in let other = other.entry.now in let id = id.entry.now in
+    requires { (check_for operation aliases.rows.now other.now ≡ none) × Hinted other.now other_hints.now }
+    ensures { let out' = out.exit.now in let aliases = aliases.entry.rows.now in let other = other.entry.now in let id = id.entry.now in
         let out = out.entry.now in
         unpacked result out' ≡ given (made_for operation aliases other id) out }
 {
-    let mut r = once(operation, id, aliases, alias_hints, other, other_hints, out);
-    let mut k: u32 = 0;
-    while k < times {
-        r = once(operation, id, aliases, alias_hints, other, other_hints, out);
-        k += 1;
+    let mut r = once(operation, id, aliases, other, other_hints, out);
+    for _ in 0..times {
+        r = once(operation, id, aliases, other, other_hints, out);
     }
     r
 }
@@ -100,13 +94,10 @@ pub extern "C" fn probe_repeat(
         let out = out.entry.now in
         unpacked result out' ≡ given (made_for operation aliases other id) out }
 {
-    let v = check_for(operation, aliases, other);
-    if let Verdict::Bad(number, place, table) = v {
-        return pack(refuse(number, place, table));
+    if let Err(fault) = check_for(operation, aliases, other) {
+        return pack(Err(Refusal::Table(fault)));
     }
-    let none = [0u16; 1];
-    let empty = &none[..0];
-    repeated(operation, id, aliases, empty, other, empty, out, times)
+    repeated(operation, id, indexed(aliases, &[]), other, &[], out, times)
 }
 
 // The same with hints, made once.
@@ -123,13 +114,20 @@ pub extern "C" fn probe_repeat_hinted(
         let out = out.entry.now in
         unpacked result out' ≡ given (made_for operation aliases other id) out }
 {
-    let v = check_for(operation, aliases, other);
-    if let Verdict::Bad(number, place, table) = v {
-        return pack(refuse(number, place, table));
+    if let Err(fault) = check_for(operation, aliases, other) {
+        return pack(Err(Refusal::Table(fault)));
     }
-    let mut a = many();
-    fill_hints(aliases, &mut a);
-    let mut o = many();
-    fill_hints(other, &mut o);
-    repeated(operation, id, aliases, &a, other, &o, out, times)
+    let mut alias_hints = many();
+    fill_hints(aliases, &mut alias_hints);
+    let mut other_hints = many();
+    fill_hints(other, &mut other_hints);
+    repeated(
+        operation,
+        id,
+        indexed(aliases, &alias_hints),
+        other,
+        &other_hints,
+        out,
+        times,
+    )
 }

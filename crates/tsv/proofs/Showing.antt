@@ -2,18 +2,20 @@
 use mathlib.Core.Path.{◌≡◌, refl, sym, ap, ◌∙◌}
 use mathlib.Core.Bool.{true, false, not}
 use mathlib.Core.List.{[], ◌∷◌, ◌++◌, append_assoc, append-nil}
-use Prim.Native.Nat.{ℕ, suc, ◌+◌, ◌*◌, ◌/◌, ◌%◌, ◌≤◌, ◌<◌}
+use mathlib.Core.Logic.{⊎_elim}
+use Prim.Native.Nat.{ℕ, suc, ◌+◌, ◌*◌, ◌/◌, ◌%◌, ◌≤◌, ◌<◌, min}
 use native.Mathlib.Omega.{arith}
 use native.Mathlib.Numerals.{add-one}
 use lib.Dec.{eqb}
 use lib.ListN.{length, take, set, get_or}
-use lib.Seq.{sets, take-suc, take_all}
+use lib.Seq.{sets, take-suc, take_all, length-take-le}
 use borrow.Author.Tests.{le-leb, lt-leb, lt-ltb, le-ltb}
 use Rattle.byte_string.proofs.Stores.{wrote-two}
 use Rattle.tsv.proofs.Laws.{ended, field-length}
 use Rattle.tsv.specs.Fields.{Bytes, field}
 use Rattle.tsv.specs.Shown.{plain, hex, safe_byte, safe, dots, shown}
 use Rattle.standard.specs.Tag.{text}
+use Rattle.standard.proofs.General.{le-or-lt}
 
 -- the tests of a byte
 module _ (b : ℕ) where
@@ -78,17 +80,6 @@ showing-more out o o' at x i p q s h w =
     let t = wrote-two out o o' at p q (safe (take i x)) (safe_byte (get_or x i 0)) (safe (take (i + 1) x)) e s.next s.put w.0 w.1 in
     record { next = t.0; put = t.1; within = omega (arith, s.within, w.2) }
 
--- at the most bytes, and at the end of the text
-pub showing-most : (out o : Bytes) (at : ℕ) (x : Bytes) (i p most : ℕ) → Showing out at x i p o → i ≤ most → most ≤ i
-    → (p ≡ at + length (safe (take most x))) × (o ≡ sets out at (safe (take most x))) × (p ≤ at + 4 * most)
-showing-most out o at x i p most s h k = let e : most ≡ i = omega arith in rw e (s.next, s.put, s.within)
-
-pub showing-all : (out o : Bytes) (at : ℕ) (x : Bytes) (i p most : ℕ) → Showing out at x i p o → i ≤ most → length x ≤ i
-    → (p ≡ at + length (safe (take most x))) × (o ≡ sets out at (safe (take most x))) × (p ≤ at + 4 * most)
-showing-all out o at x i p most s h k =
-    let e : take most x ≡ take i x = take_all most x (omega arith) ∙ sym (take_all i x k) in
-    rw e (s.next, s.put, omega (arith, s.within))
-
 -- the text whole
 pub shown-none : (most : ℕ) (x : Bytes) → length x ≡ 0 → shown most x ≡ text "-"
 unfolding shown
@@ -126,3 +117,23 @@ module _ (out o : Bytes) (at most mark end : ℕ) (x : Bytes) (n : length x ≡ 
       let e : field (shown most x) mark ≡ safe (take most x) ++ field (text "...") mark = rw (shown-cut most x n h) (field-append (safe (take most x)) (text "...") mark) in
       let t = wrote-two out o o' at end r (safe (take most x)) (field (text "...") mark) (field (shown most x) mark) e w.0 w.1 p.0 p.1 in
       (t.0, t.1, omega (arith, w.2, p.0, field-length (text "...") mark))
+
+-- the first bytes, at most so many
+pub first : (most : ℕ) (x : Bytes) → take (min (length x) most) x ≡ take most x
+first most x = ⊎_elim
+    (λ h. let e : min (length x) most ≡ most = omega arith in ap (λ n. take n x) e)
+    (λ h. let e : min (length x) most ≡ length x = omega arith in ap (λ n. take n x) e ∙ take_all (length x) x (omega arith) ∙ sym (take_all most x (omega arith)))
+    (le-or-lt most (length x))
+
+few : (most : ℕ) (x : Bytes) → length (take (min (length x) most) x) ≤ most
+few most x = let e = length-take-le (min (length x) most) x (omega arith) in omega arith
+
+pub few-of : (k most : ℕ) (x : Bytes) → k ≡ min (length x) most → length (take k x) ≤ most
+few-of k most x e = rw e (few most x)
+
+-- all of them are shown
+pub showing-first : (out o : Bytes) (at : ℕ) (x : Bytes) (k most i p : ℕ) → k ≡ min (length x) most → Showing out at (take k x) i p o → i ≤ length (take k x) → length (take k x) ≤ i
+    → (p ≡ at + length (safe (take most x))) × (o ≡ sets out at (safe (take most x))) × (p ≤ at + 4 * most)
+showing-first out o at x k most i p d s g h =
+    let e : take most x ≡ take i (take k x) = sym (first most x) ∙ ap (λ n. take n x) (sym d) ∙ sym (take_all i (take k x) h) in
+    rw e (s.next, s.put, omega (arith, s.within, few-of k most x d))

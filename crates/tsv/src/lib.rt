@@ -40,16 +40,14 @@ fn digits_of(n: usize) -> Digits
 {
     let mut bytes = [0u8; 20];
     let mut rest = n;
-    let mut start = 20;
-    while start > 0 {
-        start -= 1;
+    for start in (0..20).rev() {
         bytes[start] = digit(rest % 10);
         rest /= 10;
         if rest == 0 {
             return Digits { bytes, start };
         }
     }
-    Digits { bytes, start }
+    Digits { bytes, start: 0 }
 }
 
 // Writes src and the mark that ends it at the place at, and gives the next place.
@@ -95,17 +93,15 @@ pub fn put_number(n: usize, mark: u8, out: &mut [u8], at: usize) -> usize
 }
 
 // What was asked, or `-`.
+#[tactic(auto, unfolding(crate::specs::Fields::asked_of))]
 pub fn put_asked(number: u8, line: &[u8], out: &mut [u8], at: usize) -> usize
     requires { (at + length (asked_of number line.now) + 1 ≤ length out.old) × (at + 2 ≤ length out.old) }
     ensures { Writes out.old at (field (asked_of number line.now) 9) result out.new }
 {
-    if number == 2 {
-        return put(b"-", 9, out, at);
+    match number {
+        2 | 3 => put(b"-", b'\t', out, at),
+        _ => put(line, b'\t', out, at),
     }
-    if number == 3 {
-        return put(b"-", 9, out, at);
-    }
-    put(line, 9, out, at)
 }
 
 // Writes src as it is shown, and the mark that ends it.

@@ -4,27 +4,20 @@ ghost use Rattle.byte_string.specs.Strings.{WritesWithin};
 ghost use Rattle.tsv.specs.Shown.{plain, hex, safe_byte, safe};
 
 // Does the byte stand for itself?
+#[tactic(auto, unfolding(crate::specs::Shown::plain))]
 fn is_plain(b: u8) -> bool
     ensures { result ≡ plain b }
 {
-    if b < 32 {
-        return false;
-    }
-    if b > 126 {
-        return false;
-    }
-    b != 92
+    matches!(b, 32..=126) && b != b'\\'
 }
 
 // A hex digit's character.
+#[tactic(auto, unfolding(crate::specs::Shown::hex))]
 fn hex_digit(n: u8) -> u8
     requires { n < 16 }
     ensures { result ≡ hex n }
 {
-    if n < 10 {
-        return 48 + n;
-    }
-    55 + n
+    if n < 10 { 48 + n } else { 55 + n }
 }
 
 // Writes `\xNN` at the place at, and gives the next place.
@@ -56,14 +49,10 @@ pub(crate) fn put_safe(src: &[u8], most: usize, out: &mut [u8], at: usize) -> us
     requires { at + 4 * most ≤ length out.old }
     ensures { WritesWithin (at + 4 * most) out.old at (safe (take most src.now)) result out.new }
 {
+    let first = &src[..src.len().min(most)];
     let mut p = at;
-    let mut i = 0;
-    while i < most {
-        if src.len() <= i {
-            return p;
-        }
-        p = put_byte(src[i], out, p);
-        i += 1;
+    for b in first {
+        p = put_byte(*b, out, p);
     }
     p
 }

@@ -10,8 +10,9 @@ use Rattle.standard.specs.Identifier.{Identifier}
 use Rattle.standard.specs.Reading.{split, up_to, read, good}
 use Rattle.standard.specs.Places.{Span, Places, places_of, unwritten, shown, written, Apart, Inside}
 use Rattle.standard.proofs.Places.{not-overlapping}
+use Rattle.std.specs.Prelude.{Option, Some, None}
 use Rattle.underline.specs.declared.Part.{Part}
-use Rattle.underline.specs.declared.Part.TheVariants.{Nothing, Language, Script, Region, Variants}
+use Rattle.underline.specs.declared.Part.TheVariants.{Language, Script, Region, Variants}
 use Rattle.underline.specs.Underline.{part_spans, Drawable}
 
 -- spans apart from a column on are so from an earlier one on
@@ -53,21 +54,21 @@ unfolding Apart Inside All
 none-drawable n = record { apart = tt; inside = tt }
 
 -- the spans of each part are among all that were written
-part-drawable : (n : ℕ) (ps : Places) → Drawable n (written ps) → (part : Part) → Drawable n (part_spans part ps)
+part-drawable : (n : ℕ) (ps : Places) → Drawable n (written ps) → (part : Option Part) → Drawable n (part_spans part ps)
 unfolding written part_spans
-part-drawable n ps d Nothing = none-drawable n
-part-drawable n ps d Language = front n (shown ps.language) _ d
-part-drawable n ps d Script = front n (shown ps.script) _ (end n (shown ps.language) _ d)
-part-drawable n ps d Region = front n (shown ps.region) _ (end n (shown ps.script) _ (end n (shown ps.language) _ d))
-part-drawable n ps d Variants = end n (shown ps.region) _ (end n (shown ps.script) _ (end n (shown ps.language) _ d))
+part-drawable n ps d None = none-drawable n
+part-drawable n ps d (Some Language) = front n (shown ps.language) _ d
+part-drawable n ps d (Some Script) = front n (shown ps.script) _ (end n (shown ps.language) _ d)
+part-drawable n ps d (Some Region) = front n (shown ps.region) _ (end n (shown ps.script) _ (end n (shown ps.language) _ d))
+part-drawable n ps d (Some Variants) = end n (shown ps.region) _ (end n (shown ps.script) _ (end n (shown ps.language) _ d))
 
 -- of every accepted input and every part
-pub drawable : (part : Part) (x : List ℕ) (i : Identifier) → read x ≡ good i → Drawable (length x) (part_spans part (places_of (up_to is_singleton (split x))))
+pub drawable : (part : Option Part) (x : List ℕ) (i : Identifier) → read x ≡ good i → Drawable (length x) (part_spans part (places_of (up_to is_singleton (split x))))
 drawable part x i e =
     let p = not-overlapping x i e in
     part-drawable (length x) (places_of (up_to is_singleton (split x))) (record { apart = p.0; inside = p.1 }) part
 
 -- of a refusal, which has no places
-pub refused-drawable : (part : Part) (n : ℕ) → Drawable n (part_spans part unwritten)
+pub refused-drawable : (part : Option Part) (n : ℕ) → Drawable n (part_spans part unwritten)
 unfolding written shown
 refused-drawable part n = part-drawable n unwritten (none-drawable n) part

@@ -13,8 +13,9 @@ use Rattle.reader.specs.declared.spans.Places.{Places}
 use Rattle.reader.specs.Spans.{span_is, up_to_count, places_is}
 use Rattle.tsv.specs.Fields.{Bytes, field}
 use Rattle.tsv.proofs.Laws.{ended, field-length}
+use Rattle.std.specs.Prelude.{Some}
 use Rattle.underline.specs.declared.Part.{Part}
-use Rattle.underline.specs.declared.Part.TheVariants.{Nothing, Language, Script, Region, Variants}
+use Rattle.underline.specs.declared.Part.TheVariants.{Language, Script, Region, Variants}
 use Rattle.underline.specs.Underline.{part_spans, span_marks, marks_text, lines_text, underlined_text, Drawable}
 use Rattle.underline.proofs.Marking.{marks-short}
 
@@ -78,27 +79,23 @@ first_some (s ∷ spans) (suc n) e f = omega arith
 
 -- the spans of each part, as the code has them
 module _ (part : Part) (count : ℕ) (ps : Places) where
-  pub of-nothing : part ≡ Nothing → part_spans part (places_is count ps) ≡ []
-  unfolding part_spans
-  of-nothing e = rw e
-
-  pub of-language : part ≡ Language → part_spans part (places_is count ps) ≡ shown (span_is ps.language)
+  pub of-language : part ≡ Language → part_spans (Some part) (places_is count ps) ≡ shown (span_is ps.language)
   unfolding part_spans places_is
   of-language e = rw e
 
-  pub of-script : part ≡ Script → part_spans part (places_is count ps) ≡ shown (span_is ps.script)
+  pub of-script : part ≡ Script → part_spans (Some part) (places_is count ps) ≡ shown (span_is ps.script)
   unfolding part_spans places_is
   of-script e = rw e
 
-  pub of-region : part ≡ Region → part_spans part (places_is count ps) ≡ shown (span_is ps.region)
+  pub of-region : part ≡ Region → part_spans (Some part) (places_is count ps) ≡ shown (span_is ps.region)
   unfolding part_spans places_is
   of-region e = rw e
 
-  pub of-variants : part ≡ Variants → part_spans part (places_is count ps) ≡ take count (map span_is ps.variants)
+  pub of-variants : part ≡ Variants → part_spans (Some part) (places_is count ps) ≡ take count (map span_is ps.variants)
   unfolding part_spans places_is up_to_count
   of-variants e = rw e
 
-  pub part-written : (bound at next : ℕ) (o o₁ x : Bytes) (ss : List standard.Span) → part_spans part (places_is count ps) ≡ ss
-      → WritesWithin bound o at (lines_text x ss) next o₁ → WritesWithin bound o at (underlined_text part x (places_is count ps)) next o₁
+  pub part-written : (bound at next : ℕ) (o o₁ x : Bytes) (ss : List standard.Span) → part_spans (Some part) (places_is count ps) ≡ ss
+      → WritesWithin bound o at (lines_text x ss) next o₁ → WritesWithin bound o at (underlined_text (Some part) x (places_is count ps)) next o₁
   unfolding underlined_text
   part-written bound at next o o₁ x ss e w = rw e w

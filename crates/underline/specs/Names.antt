@@ -1,13 +1,12 @@
 -- The names of the parts. Assumes nothing.
-use Rattle.std.specs.Prelude.{cond}
+use Rattle.std.specs.Prelude.{cond, Option, Some, None}
 use Rattle.standard.specs.Tag.{text, same}
 use Rattle.tsv.specs.Fields.{Bytes}
 use Rattle.underline.specs.declared.Part.TheVariants.{Language, Script, Region, Variants}
-use Rattle.underline.specs.declared.names.Named.{Named}
-use Rattle.underline.specs.declared.names.Named.TheVariants.{Is, Unknown}
+use Rattle.underline.specs.declared.Part.{Part}
 
 -- the part that can be asked for by this name
-unfoldable pub part_named : Bytes → Named
+unfoldable pub part_named : Bytes → Option Part
 part_named x =
-    cond (same x (text "language")) (Is Language)
-    (cond (same x (text "script")) (Is Script) (cond (same x (text "region")) (Is Region) (cond (same x (text "variants")) (Is Variants) Unknown)))
+    cond (same x (text "language")) (Some Language)
+    (cond (same x (text "script")) (Some Script) (cond (same x (text "region")) (Some Region) (cond (same x (text "variants")) (Some Variants) None)))

@@ -1,17 +1,17 @@
 -- An identifier again with one of its parts underlined. Assumes nothing.
-use Rattle.std.specs.Prelude.{List, [], ◌∷◌, ◌++◌, ℕ, ◌+◌, ◌-◌, replicate}
+use Rattle.std.specs.Prelude.{List, [], ◌∷◌, ◌++◌, ℕ, ◌+◌, ◌-◌, replicate, Option, Some, None}
 use Rattle.standard.specs.Places.{Span, Places, shown, Apart, Inside}
 use Rattle.tsv.specs.Fields.{Bytes, field}
 use Rattle.underline.specs.declared.Part.{Part}
-use Rattle.underline.specs.declared.Part.TheVariants.{Nothing, Language, Script, Region, Variants}
+use Rattle.underline.specs.declared.Part.TheVariants.{Language, Script, Region, Variants}
 
 -- where a part was written
-unfoldable pub part_spans : Part → Places → List Span
-part_spans Nothing ps = []
-part_spans Language ps = shown ps.language
-part_spans Script ps = shown ps.script
-part_spans Region ps = shown ps.region
-part_spans Variants ps = ps.variants
+unfoldable pub part_spans : Option Part → Places → List Span
+part_spans None ps = []
+part_spans (Some Language) ps = shown ps.language
+part_spans (Some Script) ps = shown ps.script
+part_spans (Some Region) ps = shown ps.region
+part_spans (Some Variants) ps = ps.variants
 
 -- spaces from a column to a span, and `^` below it
 unfoldable pub span_marks : ℕ → Span → Bytes
@@ -28,7 +28,7 @@ lines_text x [] = []
 lines_text x (s ∷ ss) = field x 10 ++ field (marks_text 0 (s ∷ ss)) 10
 
 -- an identifier with a part underlined; nothing where the part was not written
-unfoldable pub underlined_text : Part → Bytes → Places → Bytes
+unfoldable pub underlined_text : Option Part → Bytes → Places → Bytes
 underlined_text part x ps = lines_text x (part_spans part ps)
 
 -- spans that can be marked in one line of n columns

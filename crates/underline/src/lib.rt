@@ -3,7 +3,7 @@
 
 pub mod names;
 
-ghost use Rattle.std.specs.Prelude.{map, ◌+◌, ◌≤◌, length, take, replicate};
+ghost use Rattle.std.specs.Prelude.{Some, map, ◌+◌, ◌≤◌, length, take, replicate};
 ghost use Rattle.standard.specs.Places.{shown, Apart};
 ghost use Rattle.byte_string.specs.Strings.{Writes, WritesWithin};
 ghost use Rattle.reader.specs.Spans.{span_is, places_is, Counted};
@@ -12,10 +12,9 @@ ghost use Rattle.underline.specs.Underline.{part_spans, span_marks, marks_text, 
 use reader::spans::{Places, Span};
 use tsv::put;
 
-// The part of an identifier to underline, or none.
-#[derive(Clone, Copy)]
+// A part of an identifier to underline.
+#[derive(Clone, Copy, PartialEq, Eq)]
 pub enum Part {
-    Nothing,
     Language,
     Script,
     Region,
@@ -27,12 +26,8 @@ fn put_times(byte: u8, n: usize, out: &mut [u8], at: usize) -> usize
     requires { at + n ≤ length out.old }
     ensures { Writes out.old at (replicate n byte) result out.new }
 {
-    let mut i = 0;
-    while i < n {
-        out[at + i] = byte;
-        i += 1;
-    }
-    at + i
+    out[at..at + n].fill(byte);
+    at + n
 }
 
 // Writes the marks below a span, from a column on.
@@ -53,12 +48,10 @@ fn put_all_marks(spans: [Span; 50], count: usize, out: &mut [u8], at: usize) -> 
 {
     let mut p = at;
     let mut column = 0;
-    let mut i = 0;
-    while i < count {
+    for i in 0..count {
         let s = spans[i];
         p = put_marks(s, column, out, p);
         column = s.start as usize + s.len as usize;
-        i += 1;
     }
     p
 }
@@ -92,10 +85,28 @@ fn underline_all(id: &[u8], spans: [Span; 50], count: usize, out: &mut [u8], at:
     q + 1
 }
 
-// Writes an identifier with a part underlined at the place at, and gives the next place. Nothing is written where the part
-// was not.
+// Writes an identifier with the part underlined.
+fn put_part(part: Part, id: &[u8], places: Places, count: usize, out: &mut [u8], at: usize) -> usize
+    requires { let id = id.now in
+        Counted count places × Drawable (length id) (part_spans (Some part) (places_is count places)) × (length id ≤ 255) × (at + 512 ≤ length out.old) }
+    ensures { WritesWithin (at + 512) out.old at (underlined_text (Some part) id.now (places_is count places)) result out.new }
+{
+    let language = places.language;
+    let script = places.script;
+    let region = places.region;
+    let variants = places.variants;
+    match part {
+        Part::Language => underline_one(id, language, out, at),
+        Part::Script => underline_one(id, script, out, at),
+        Part::Region => underline_one(id, region, out, at),
+        Part::Variants => underline_all(id, variants, count, out, at),
+    }
+}
+
+// Writes an identifier with a part underlined at the place at, and gives the next place. Nothing is written where no part is
+// asked for, or where it was not written.
 pub fn put_underlined(
-    part: Part,
+    part: Option<Part>,
     id: &[u8],
     places: Places,
     count: usize,
@@ -106,15 +117,8 @@ pub fn put_underlined(
         Counted count places × Drawable (length id) (part_spans part (places_is count places)) × (length id ≤ 255) × (at + 512 ≤ length out.old) }
     ensures { WritesWithin (at + 512) out.old at (underlined_text part id.now (places_is count places)) result out.new }
 {
-    let language = places.language;
-    let script = places.script;
-    let region = places.region;
-    let variants = places.variants;
     match part {
-        Part::Nothing => at,
-        Part::Language => underline_one(id, language, out, at),
-        Part::Script => underline_one(id, script, out, at),
-        Part::Region => underline_one(id, region, out, at),
-        Part::Variants => underline_all(id, variants, count, out, at),
+        None => at,
+        Some(part) => put_part(part, id, places, count, out, at),
     }
 }

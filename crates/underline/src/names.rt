@@ -5,28 +5,20 @@ ghost use Rattle.underline.specs.Names.{part_named};
 use crate::Part;
 use byte_string::same;
 
-// The part that a name is of.
-#[derive(Clone, Copy)]
-pub enum Named {
-    Is(Part),
-    Unknown,
-}
-
-// The part of this name.
-pub fn part_named(name: &[u8]) -> Named
+// The part of this name, if it is one's.
+#[tactic(auto, unfolding(crate::specs::Names::part_named))]
+pub fn part_named(name: &[u8]) -> Option<Part>
     ensures { result ≡ part_named name.now }
 {
     if same(name, b"language") {
-        return Named::Is(Part::Language);
+        Some(Part::Language)
+    } else if same(name, b"script") {
+        Some(Part::Script)
+    } else if same(name, b"region") {
+        Some(Part::Region)
+    } else if same(name, b"variants") {
+        Some(Part::Variants)
+    } else {
+        None
     }
-    if same(name, b"script") {
-        return Named::Is(Part::Script);
-    }
-    if same(name, b"region") {
-        return Named::Is(Part::Region);
-    }
-    if same(name, b"variants") {
-        return Named::Is(Part::Variants);
-    }
-    Named::Unknown
 }

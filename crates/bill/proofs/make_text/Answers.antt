@@ -36,8 +36,8 @@ returns-then-c-ne0 c =
       );
     }
 
-pub take_tested-b-requires : goal.take_tested-b-requires
-take_tested-b-requires c =
+pub take_tested-billed-requires : goal.take_tested-billed-requires
+take_tested-billed-requires c =
     let t = c.start-c in
     let k = c.key_room-keys in
     let m = c.count_room-counts in
@@ -48,12 +48,12 @@ take_tested-b-requires c =
 
 pub returns-then-has_failed : goal.returns-then-has_failed
 returns-then-has_failed c =
-    let t = c.take_tested-b in
+    let t = c.take_tested-billed in
     record { in_bounds = omega arith; prefix = refl; makes = (t.ensures.0, makes-nothing _ _ t.ensures.0 t.result _ _ _ refl t.ensures.1 (failure-of t.result.input.last (sym c.has_failed.ensures ∙ c.if-has_failed.true))) }
 
 pub returns : goal.returns
 returns c =
-    let t = c.take_tested-b in
+    let t = c.take_tested-billed in
     let w = c.write-len-2 in
     let same : length t.new.block ≡ length c.args.block.now = search rules in
     let room : 65536 ≤ length t.new.block = omega (arith, same, c.requires.0) in

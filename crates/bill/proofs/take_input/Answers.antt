@@ -18,7 +18,7 @@ use Rattle.bill.proofs.take_input.Goals.{After-add_hinted-c}
 pub loop-streams-init : goal.loop-streams-init
 loop-streams-init c =
     let b = c.begin-input.ensures in
-    (refl, refl, refl, refl, refl, record { behind = b.0.behind; few = b.0.few; within = omega (arith, b.0.within) }, c.requires.5, ([], b.1 _, held_none _ _ _ _ _ c.requires.6))
+    (refl, refl, refl, refl, refl, record { behind = b.0.behind; few = b.0.few; within = omega (arith, b.0.within) }, c.requires.2, ([], b.1 _, held_none _ _ _ _ _ c.requires.3))
 
 pub returns-then-has_failed : goal.returns-then-has_failed
 returns-then-has_failed c =
@@ -37,14 +37,14 @@ pub add_hinted-c-requires : goal.add_hinted-c-requires
 add_hinted-c-requires c =
     let l = c.loop-streams in
     let h = l.invariant.7.2 in
-    (c.requires.0, c.requires.1, c.requires.2, (let k = l.invariant.4 in omega (arith, k, c.requires.3)), record { number = l.invariant.6; bounded = h.bounded; sized = h.sized })
+    ((let k = l.invariant.4 in omega (arith, k, c.requires.0)), record { number = l.invariant.6; bounded = h.bounded; sized = h.sized })
 
 -- the bill after the piece that was handed over
 piece-held : (c : goal.After-add_hinted-c)
-    → Held c.args.aliases.now c.args.likely.now (all_lines (handed_over [] c.loop-streams.invariant.7.0) ++ lines (take c.next-input.result.taken.whole c.next-input.new.piece)) c.add_hinted-c.result c.add_hinted-c.new.keys c.add_hinted-c.new.counts
+    → Held c.args.tables.aliases.rows.now c.args.tables.likely.rows.now (all_lines (handed_over [] c.loop-streams.invariant.7.0) ++ lines (take c.next-input.result.taken.whole c.next-input.new.piece)) c.add_hinted-c.result c.add_hinted-c.new.keys c.add_hinted-c.new.counts
 piece-held c =
     let l = c.loop-streams in
-    subst (λ (k : ℕ). Held c.args.aliases.now c.args.likely.now (all_lines (handed_over [] l.invariant.7.0) ++ lines (take k c.next-input.new.piece)) c.add_hinted-c.result c.add_hinted-c.new.keys c.add_hinted-c.new.counts)
+    subst (λ (k : ℕ). Held c.args.tables.aliases.rows.now c.args.tables.likely.rows.now (all_lines (handed_over [] l.invariant.7.0) ++ lines (take k c.next-input.new.piece)) c.add_hinted-c.result c.add_hinted-c.new.keys c.add_hinted-c.new.counts)
     c.whole-whole.ensures (c.add_hinted-c.ensures.0 _ l.invariant.7.2)
 
 pub returns-then-c-ne0 : goal.returns-then-c-ne0

@@ -16,4 +16,4 @@ bounds-counts-i-4 c =
 
 pub returns : goal.returns
 returns c =
-    λ ks n u e h f. changed ks c.args.counts.now u c.args.at n c.args.mark c.more.result c.requires.0 c.requires.1 e h f c.more.ensures
+    λ ks n u e h f. changed ks c.args.counts.now u c.args.at n c.args.mark c.saturating_add.result c.requires.0 c.requires.1 e h f (λ k. omega (arith, k, c.saturating_add.ensures))

@@ -1,6 +1,5 @@
 -- `bill_ledger::place_of` meets its contract. Assumes nothing.
 use mathlib.Core.Path.{sym, ◌∙◌}
-use Prim.Native.Nat.{◌-◌}
 use native.Mathlib.Omega.{arith}
 use Rattle.bill_ledger.proofs.Moves.{search-start, search-above, search-below, search-end}
 use Rattle.bill_ledger.proofs.place_of.Goals as goal

@@ -15,26 +15,26 @@ returns-then-not-is_usable c =
       λ u. record { counts = refl; keys = refl; numbers = refl },
     )
 
-pub returns-in_default : goal.returns-in_default
-returns-in_default c =
+pub returns-in-Err : goal.returns-in-Err
+returns-in-Err c =
     let a = c.args in
     let u = c.is_usable.ensures.0 c.if-not-is_usable.false in
-    let v = c.check_likely-v in (
-      λ ls h. absurd (held-bad a.aliases.now a.likely.now ls ls a.c a.keys.now a.counts.now h v.result v.ensures c.in_default.is u.number),
+    let v = c.check_likely in (
+      λ ls h. absurd (held-bad a.aliases.now a.likely.now ls ls a.c a.keys.now a.counts.now h v.result v.ensures c.in-Err.is u.number),
       λ n. absurd (n u),
     )
 
 pub add_tested-requires : goal.add_tested-requires
 add_tested-requires c =
-    let v = c.check_likely-v in
+    let v = c.check_likely in
     let u = c.is_usable.ensures.0 c.if-not-is_usable.false in
-    (tested-both _ _ (table-good v.result _ v.ensures c.in-Good.is), u.bounded, u.sized)
+    (tested-both _ _ (table-good v.result _ _ v.ensures c.in_default.is), u.bounded, u.sized)
 
 pub returns : goal.returns
 returns c =
-    let v = c.check_likely-v in
+    let v = c.check_likely in
     let a = c.args in
     let u = c.is_usable.ensures.0 c.if-not-is_usable.false in (
-      λ ls h. held_on a.aliases.now a.likely.now ls (lines a.piece.now) a.c a.keys.now a.counts.now h c.add_tested.result _ _ u.number (table-good v.result _ v.ensures c.in-Good.is) c.add_tested.ensures.0 c.add_tested.ensures.1 (c.add_tested.ensures.2 ls),
+      λ ls h. held_on a.aliases.now a.likely.now ls (lines a.piece.now) a.c a.keys.now a.counts.now h c.add_tested.result _ _ u.number (table-good v.result _ _ v.ensures c.in_default.is) c.add_tested.ensures.0 c.add_tested.ensures.1 (c.add_tested.ensures.2 ls),
       λ n. absurd (n u),
     )

@@ -1,12 +1,15 @@
 -- `bill_lines::judged` meets its contract. Assumes nothing.
-use mathlib.Core.Path.{sym, ap, ◌∙◌}
+use mathlib.Core.Path.{sym, ap, ap₂, ◌∙◌}
+use Prim.Native.Nat.{ℕ}
 use Rattle.bill_lines.specs.Held.{judged_by}
+use Rattle.bill_lines.specs.State.{only}
 use Rattle.bill_lines.proofs.judged.Goals as goal
 
-pub returns-in-Good : goal.returns-in-Good
+pub returns-in-Ok : goal.returns-in-Ok
 unfolding judged_by
-returns-in-Good c = c.only.ensures ∙ sym (ap judged_by c.in-Good.is)
+returns-in-Ok c = c.only.ensures ∙ sym (ap judged_by c.in-Ok.is)
 
-pub returns-in-Bad : goal.returns-in-Bad
+pub returns-in-Err : goal.returns-in-Err
 unfolding judged_by
-returns-in-Bad c = c.only-in-Bad.ensures ∙ sym (ap judged_by c.in-Bad.is)
+returns-in-Err c =
+    c.only-in-Err.ensures ∙ ap₂ (λ (n t : ℕ). only n c.in-Err.fault.place t) c.number.ensures c.table_number.ensures ∙ sym (ap judged_by c.in-Err.is)

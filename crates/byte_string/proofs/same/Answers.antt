@@ -1,14 +1,7 @@
 -- `byte_string::same` meets its contract. Assumes nothing.
-use mathlib.Core.Path.{ap}
-use Rattle.byte_string.specs.Strings.{order_of}
-use Rattle.byte_string.proofs.Orders.{same-order}
+use mathlib.Core.Path.{◌∙◌}
+use Rattle.byte_string.proofs.Orders.{of-equal}
 use Rattle.byte_string.proofs.same.Goals as goal
 
-pub returns-in-Less : goal.returns-in-Less
-returns-in-Less c = same-order _ _ c.compare-o.result _ c.compare-o.ensures (ap order_of c.in-Less.is)
-
-pub returns-in-Equal : goal.returns-in-Equal
-returns-in-Equal c = same-order _ _ c.compare-o.result _ c.compare-o.ensures (ap order_of c.in-Equal.is)
-
-pub returns-in-Greater : goal.returns-in-Greater
-returns-in-Greater c = same-order _ _ c.compare-o.result _ c.compare-o.ensures (ap order_of c.in-Greater.is)
+pub returns : goal.returns
+returns c = c.eq.ensures ∙ of-equal _ _

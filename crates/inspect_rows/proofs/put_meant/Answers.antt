@@ -1,6 +1,6 @@
 -- `inspect_rows::put_meant` meets its contract. Assumes nothing.
 use native.Mathlib.Omega.{arith}
-use Rattle.inspect_rows.proofs.Rows as rows
+use Rattle.inspect_rows.proofs.Texts as rows
 use Rattle.inspect_rows.proofs.put_meant.Goals as goal
 
 pub returns-then-number-ne0 : goal.returns-then-number-ne0

@@ -3,7 +3,7 @@ use native.Mathlib.Omega.{arith}
 use mathlib.Core.List.{[]}
 use Rattle.standard.specs.Tag.{text}
 use Rattle.tsv.proofs.Laws.{field-length}
-use Rattle.inspect_rows.proofs.Rows as rows
+use Rattle.inspect_rows.proofs.Texts as rows
 use Rattle.inspect_rows.proofs.put_no_key.Goals as goal
 
 pub put_number-q-requires : goal.put_number-q-requires

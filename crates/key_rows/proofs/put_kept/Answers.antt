@@ -21,8 +21,8 @@ returns-then-number-eq0 c =
     let t = take a.len a.form.now in
     rw (laws.kept-form a.number t c.if-number-eq0.true) (p.0, p.1, omega (arith, p.0, field-length t 10, length-take-le a.len a.form.now (omega arith)))
 
-pub returns : goal.returns
-returns c =
+pub returns-else-number-eq0 : goal.returns-else-number-eq0
+returns-else-number-eq0 c =
     let a = c.args in
-    let p = c.put-2.ensures in
+    let p = c.put-else-number-eq0.ensures in
     rw (laws.kept-none a.number (take a.len a.form.now) c.if-number-eq0.false) (p.0, p.1, omega (arith, p.0, field-length (45 ∷ []) 10))

@@ -1,20 +1,13 @@
 -- `keys::answer` meets its contract. Assumes nothing.
+use mathlib.Core.Path.{◌≡◌, ◌∙◌}
 use native.Mathlib.Omega.{arith}
 use Rattle.keys.proofs.answer.Goals as goal
 
-pub answer_input-requires : goal.answer_input-requires
-answer_input-requires c =
-    let b = c.block_buffer-block.ensures in
-    let p = c.piece_buffer-piece.ensures in
-    let o = c.out_buffer-out.ensures in (
-      c.requires.0,
-      c.fill_hints.ensures,
-      c.fill_hints-2.ensures,
-      c.form_buffer-form.ensures,
-      record { some = omega (arith, b); behind = omega (arith, b, p) },
-      omega (arith, o),
-      c.requires.1,
-    )
+pub answer-requires : goal.answer-requires
+answer-requires c = record { room = omega (arith, c.out_buffer-out.ensures); unfailed = c.requires.1.printed }
 
 pub returns : goal.returns
-returns c = c.answer_input.ensures
+returns c =
+    let a : c.tested-tables.result.aliases.rows.now ≡ c.args.aliases.now = c.tested-tables.ensures.0 ∙ c.indexed.ensures.0 in
+    let l : c.tested-tables.result.likely.rows.now ≡ c.args.likely.now = c.tested-tables.ensures.1 ∙ c.indexed-2.ensures.0 in
+    rw (a, l) at (c.answer.ensures _ c.requires.1)

@@ -17,13 +17,10 @@ bounds-spans-i c = let w = c.loop-i.invariant.0 in let m = w.most in omega arith
 pub put_span-end-requires : goal.put_span-end-requires
 put_span-end-requires c = let i = c.loop-i.invariant in let w = i.0 in let m = w.most in let b = w.bound in let r = w.room in omega (arith, i.1)
 
-pub overflow_add-i : goal.overflow_add-i
-overflow_add-i c = let w = c.loop-i.invariant.0 in let m = w.most in omega arith
-
 pub loop-i-preserved : goal.loop-i-preserved
 loop-i-preserved c =
     let i = c.loop-i.invariant in
-    (laws.listing-more _ _ _ _ _ _ _ i.0 _ _ _ _ c.loop-i-test.true c.mark_behind-mark.ensures c.put_span-end.ensures (search rules), i.1)
+    (laws.listing-more _ _ _ _ _ _ _ i.0 _ _ _ _ c.loop-i-test.true c.mark_behind.ensures c.put_span-end.ensures (search rules), i.1)
 
 pub returns : goal.returns
 unfolding up_to_count

@@ -1,21 +1,18 @@
 -- `reader::foreign_byte` meets its contract. Assumes nothing.
-use native.Mathlib.Omega.{arith}
-use mathlib.Core.Path.{refl, sym, ◌∙◌}
-use Prim.Native.Nat.{◌-◌}
+use mathlib.Core.Path.{ap, ◌∙◌}
+use mathlib.Core.Bool.{not}
+use Rattle.std.proofs.Common.{rules, tests}
+use Rattle.std.proofs.lemmas.Iterator.{YieldsList-from_slice}
+use Rattle.std.proofs.lemmas.Iterator.Search.{position_from_yields_List}
+use Rattle.std.proofs.lemmas.Iterator.Adapters.{position_from-zero}
+use Rattle.standard.specs.Reading.{clean}
 use Rattle.reader.specs.Parts.{found_as}
-use Rattle.reader.proofs.Outcomes as outcomes
+use Rattle.reader.proofs.Outcomes.{unclean-from}
 use Rattle.reader.proofs.foreign_byte.Goals as goal
 
-pub loop-i-init : goal.loop-i-init
-loop-i-init c = (omega arith, refl)
-
-pub returns-then-foreign : goal.returns-then-foreign
-unfolding found_as
-returns-then-foreign c = sym (c.loop-i.invariant.1 ∙ outcomes.byte-bad _ _ c.loop-i-test.true _ c.foreign.ensures c.if-foreign.true)
-
-pub loop-i-preserved : goal.loop-i-preserved
-loop-i-preserved c = (omega arith, c.loop-i.invariant.1 ∙ outcomes.byte-good _ _ c.loop-i-test.true _ c.foreign.ensures c.if-foreign.false)
-
 pub returns : goal.returns
-unfolding found_as
-returns c = sym (c.loop-i.invariant.1 ∙ outcomes.byte-end _ _ c.loop-i-test.false)
+returns c =
+    ap (found_as 3)
+    (position_from_yields_List (λ b. not (clean b)) _ _ c.position.result c.position.ensures.ran (YieldsList-from_slice c.args.id.now (cc)) (λ x b q k. search (rules, tests))
+    ∙ position_from-zero (λ b. not (clean b)) c.args.id.now)
+    ∙ unclean-from 0 _

@@ -1,4 +1,5 @@
 -- `refused::answer` meets its contract. Assumes nothing.
+use mathlib.Core.Path.{◌∙◌}
 use native.Mathlib.Omega.{arith}
 use Rattle.refused.proofs.answer.Goals as goal
 
@@ -7,9 +8,6 @@ answer_input-requires c =
     let b = c.block_buffer-block.ensures in
     let p = c.piece_buffer-piece.ensures in
     let o = c.out_buffer-out.ensures in (
-      c.requires.0,
-      c.fill_hints.ensures,
-      c.fill_hints-2.ensures,
       c.form_buffer-form.ensures,
       record { some = omega (arith, b); behind = omega (arith, b, p) },
       omega (arith, o),
@@ -17,4 +15,4 @@ answer_input-requires c =
     )
 
 pub returns : goal.returns
-returns c = c.answer_input.ensures
+returns c = rw (c.tested-tables.ensures.0 ∙ c.indexed.ensures.0, c.tested-tables.ensures.1 ∙ c.indexed-2.ensures.0) at c.answer_input.ensures

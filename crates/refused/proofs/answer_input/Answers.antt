@@ -22,7 +22,7 @@ use Rattle.refused.proofs.answer_input.Goals.{After-print_rows-p}
 pub loop-streams-init : goal.loop-streams-init
 loop-streams-init c =
     let b = c.begin-input.ensures in
-    (refl, refl, refl, refl, record { behind = b.0.behind; few = b.0.few; within = omega (arith, b.0.within) }, ([], b.1 _, printed-header _ _ (none _ 1) _ c.requires.6, number-none))
+    (refl, refl, refl, refl, record { behind = b.0.behind; few = b.0.few; within = omega (arith, b.0.within) }, ([], b.1 _, printed-header _ _ (none _ 1) _ c.requires.3, number-none))
 
 pub returns-then-has_failed : goal.returns-then-has_failed
 returns-then-has_failed c =
@@ -40,13 +40,13 @@ slice_bounds-print_rows-end-in-loop-streams c = let h = sym (length-take-le c.wh
 pub print_rows-p-requires : goal.print_rows-p-requires
 print_rows-p-requires c =
     let l = c.loop-streams in
-    (c.requires.0, c.requires.1, c.requires.2, l.invariant.0 ∙ c.requires.3, (let k = l.invariant.3 in omega (arith, k, c.requires.5)), l.invariant.5.2.going)
+    (l.invariant.0 ∙ c.requires.0, (let k = l.invariant.3 in omega (arith, k, c.requires.2)), l.invariant.5.2.going)
 
 -- what was printed of the piece that was handed over, and the number behind it
 piece-rows : (c : goal.After-print_rows-p)
-    → PrintsLines (rows_from (line_row c.args.aliases.now c.args.likely.now) c.loop-streams.next) (lines (take c.next-input.result.taken.whole c.next-input.new.piece)) c.loop-streams.output c.print_rows-p.result.output × (c.print_rows-p.result.output.failed ≡ false → c.print_rows-p.result.next ≡ number_after c.loop-streams.next (lines (take c.next-input.result.taken.whole c.next-input.new.piece)))
+    → PrintsLines (rows_from (line_row c.args.tables.aliases.rows.now c.args.tables.likely.rows.now) c.loop-streams.next) (lines (take c.next-input.result.taken.whole c.next-input.new.piece)) c.loop-streams.output c.print_rows-p.result.output × (c.print_rows-p.result.output.failed ≡ false → c.print_rows-p.result.next ≡ number_after c.loop-streams.next (lines (take c.next-input.result.taken.whole c.next-input.new.piece)))
 piece-rows c =
-    subst (λ (k : ℕ). PrintsLines (rows_from (line_row c.args.aliases.now c.args.likely.now) c.loop-streams.next) (lines (take k c.next-input.new.piece)) c.loop-streams.output c.print_rows-p.result.output × (c.print_rows-p.result.output.failed ≡ false → c.print_rows-p.result.next ≡ number_after c.loop-streams.next (lines (take k c.next-input.new.piece))))
+    subst (λ (k : ℕ). PrintsLines (rows_from (line_row c.args.tables.aliases.rows.now c.args.tables.likely.rows.now) c.loop-streams.next) (lines (take k c.next-input.new.piece)) c.loop-streams.output c.print_rows-p.result.output × (c.print_rows-p.result.output.failed ≡ false → c.print_rows-p.result.next ≡ number_after c.loop-streams.next (lines (take k c.next-input.new.piece))))
     c.whole-whole.ensures c.print_rows-p.ensures
 
 pub returns-then-has_failed-2 : goal.returns-then-has_failed-2

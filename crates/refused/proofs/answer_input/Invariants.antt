@@ -15,7 +15,7 @@ use Rattle.refused.proofs.answer_input.Given as goal
 
 abbrev pub invariant-loop-streams : goal.invariant-loop-streams
 invariant-loop-streams l = (length l.form ≡ length l.initial.form) × (length l.block ≡ length l.initial.block) × (length l.piece ≡ length l.initial.piece) × (length l.out ≡ length l.initial.out) × Placed l.input.taken (length l.piece)
-    × ((bs : List Bytes) × Going bs l.input l.piece × Printed (headed header (rows_from (line_row l.aliases l.likely) 1)) bs l.output × (l.next ≡ number_after 1 (all_lines (handed_over [] bs))))
+    × ((bs : List Bytes) × Going bs l.input l.piece × Printed (headed header (rows_from (line_row l.tables.aliases.rows.now l.tables.likely.rows.now) 1)) bs l.output × (l.next ≡ number_after 1 (all_lines (handed_over [] bs))))
 
 abbrev pub decreases-loop-streams : goal.decreases-loop-streams
 decreases-loop-streams l = 18446744073709551615 - l.input.bytes

@@ -12,7 +12,7 @@ use Rattle.refused.proofs.print_rows.Goals as goal
 use Rattle.refused.proofs.print_rows.Goals.{After-rows_hinted-k}
 
 pub loop-at-init : goal.loop-at-init
-loop-at-init c = (c.requires.3, refl, numbering_start _ c.args.first _ c.args.from c.requires.5 (omega arith))
+loop-at-init c = (c.requires.0, refl, numbering_start _ c.args.first _ c.args.from c.requires.2 (omega arith))
 
 pub slice_bounds-rows_hinted-count : goal.slice_bounds-rows_hinted-count
 slice_bounds-rows_hinted-count c = omega (arith, c.loop-at.invariant.2.within)
@@ -24,26 +24,26 @@ pub slice_bounds-rows_hinted-end : goal.slice_bounds-rows_hinted-end
 slice_bounds-rows_hinted-end c = omega (arith, c.loop-at.invariant.2.within)
 
 -- the rows of a call, how much of the piece they answer, and the number behind it
-good : (c : goal.After-rows_hinted-k) → laws.Good c.args.aliases.now c.args.likely.now c.loop-at.next (take (length c.args.piece.now - c.loop-at.at) (drop c.loop-at.at c.args.piece.now)) c.loop-at.out _ c.rows_hinted-k.result c.rows_hinted-k.ensures.0
-good c = laws.good-rowed _ _ _ _ c.loop-at.out _ c.rows_hinted-k.result c.rows_hinted-k.ensures.0 c.requires.0.passes
+good : (c : goal.After-rows_hinted-k) → laws.Good c.args.tables.aliases.rows.now c.args.tables.likely.rows.now c.loop-at.next (take (length c.args.piece.now - c.loop-at.at) (drop c.loop-at.at c.args.piece.now)) c.loop-at.out _ c.rows_hinted-k.result c.rows_hinted-k.ensures.given
+good c = laws.good-rowed _ _ _ _ c.loop-at.out _ c.rows_hinted-k.result c.rows_hinted-k.ensures.given c.args.tables.tested.passes
 
 -- a call uses no more than there is, and something where there is something
 within : (c : goal.After-rows_hinted-k) → c.rows_hinted-k.result.used ≤ length c.args.piece.now - c.loop-at.at
-within c = omega (arith, c.rows_hinted-k.ensures.1, rest-length c.args.piece.now c.loop-at.at)
+within c = omega (arith, c.rows_hinted-k.ensures.in_piece, rest-length c.args.piece.now c.loop-at.at)
 
 further : (c : goal.After-rows_hinted-k) → 0 < c.rows_hinted-k.result.used
 further c =
     let l = c.loop-at in
     let r = rest-length c.args.piece.now l.at in
     let h = l.invariant.1 in
-    laws.further _ _ l.next (take (length c.args.piece.now - l.at) (drop l.at c.args.piece.now)) l.out _ c.rows_hinted-k.result c.rows_hinted-k.ensures.0 (good c).number (omega (arith, h, c.requires.4)) (omega (arith, r, c.loop-at-test.true))
+    laws.further _ _ l.next (take (length c.args.piece.now - l.at) (drop l.at c.args.piece.now)) l.out _ c.rows_hinted-k.result c.rows_hinted-k.ensures.given (omega (arith, h, c.requires.1)) (omega (arith, r, c.loop-at-test.true))
 
 -- what was printed is what the call wrote
 size : (c : goal.After-rows_hinted-k) → c.rows_hinted-k.result.len ≡ length (take c.rows_hinted-k.result.len c.rows_hinted-k.new.out)
-size c = let e : length c.rows_hinted-k.new.out ≡ length c.loop-at.out = search rules in sym (length-take-le _ _ (omega (arith, c.rows_hinted-k.ensures.2)))
+size c = let e : length c.rows_hinted-k.new.out ≡ length c.loop-at.out = search rules in sym (length-take-le _ _ (omega (arith, c.rows_hinted-k.ensures.in_out)))
 
 pub slice_bounds-print-end : goal.slice_bounds-print-end
-slice_bounds-print-end c = omega (arith, c.rows_hinted-k.ensures.2, c.rows_hinted-k.auto)
+slice_bounds-print-end c = omega (arith, c.rows_hinted-k.ensures.in_out, c.rows_hinted-k.auto)
 
 pub slice_bounds-print-end-in-loop-at : goal.slice_bounds-print-end-in-loop-at
 slice_bounds-print-end-in-loop-at c = size (goal.at.slice_bounds-print-end-in-loop-at c).After-rows_hinted-k

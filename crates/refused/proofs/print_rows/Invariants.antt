@@ -7,7 +7,7 @@ use Rattle.refused.proofs.Numbers.{Numbering}
 use Rattle.refused.proofs.print_rows.Given as goal
 
 abbrev pub invariant-loop-at : goal.invariant-loop-at
-invariant-loop-at l = (length l.form ≡ 256) × (length l.out ≡ length l.initial.out) × Numbering (line_row l.aliases l.likely) l.first l.piece l.initial.o l.o l.at l.next
+invariant-loop-at l = (length l.form ≡ 256) × (length l.out ≡ length l.initial.out) × Numbering (line_row l.tables.aliases.rows.now l.tables.likely.rows.now) l.first l.piece l.initial.o l.o l.at l.next
 
 abbrev pub decreases-loop-at : goal.decreases-loop-at
 decreases-loop-at l = length l.piece - l.at

@@ -4,4 +4,4 @@ use Rattle.refused_rows.proofs.put_kept.Goals as goal
 
 pub returns : goal.returns
 unfolding kept_row
-returns c = rw c.line_fault-f.ensures at c.put_fault.ensures
+returns c = rw c.check_line.ensures at c.put_fault.ensures

@@ -1,5 +1,5 @@
 -- `refused_rows::rows_hinted` meets its contract. Assumes nothing.
-use Rattle.std.proofs.Common.{◌-◌, refl, arith, rules}
+use Rattle.std.proofs.Common.{arith, rules}
 use Rattle.lines.proofs.Pieces as pieces
 use Rattle.refused_rows.specs.Numbered.{next_number}
 use Rattle.refused_rows.specs.Rows.{line_row}
@@ -11,7 +11,7 @@ use Rattle.refused_rows.proofs.rows_hinted.Goals as goal
 use Rattle.refused_rows.proofs.rows_hinted.Goals.{After-end_of-e}
 
 pub loop-at-init : goal.loop-at-init
-loop-at-init c = (numbered.going_start _ 2400 _ _ _, c.requires.3, c.requires.3)
+loop-at-init c = (numbered.going_start _ 2400 _ _ _, c.requires, c.requires)
 
 pub overflow_sub-out : goal.overflow_sub-out
 overflow_sub-out c = omega (arith, c.loop-at.invariant.0.room, c.loop-at.invariant.0.same)
@@ -20,8 +20,8 @@ pub returns-then-out-len-lt2400 : goal.returns-then-out-len-lt2400
 returns-then-out-len-lt2400 c =
     let l = c.loop-at in
     let g = l.invariant.0 in
-    let d = numbered.going-full (line_row c.args.aliases.now c.args.likely.now) 2400 c.args.first c.args.piece.now c.args.out.now l.out l.at l.next l.len g (omega (arith, g.same)) in
-    (laws.rows-given c.args.aliases.now c.args.likely.now c.args.first c.args.piece.now c.requires.0.passes c.args.out.now l.out _ refl refl refl d.used d.number d.size d.bytes g.room, g.within, g.room)
+    let d = numbered.going-full (line_row c.args.tables.aliases.rows.now c.args.tables.likely.rows.now) 2400 c.args.first c.args.piece.now c.args.out.now l.out l.at l.next l.len g (omega (arith, g.same)) in
+    record { given = laws.rows-given c.args.tables.aliases.rows.now c.args.tables.likely.rows.now c.args.first c.args.piece.now c.args.tables.tested.passes c.args.out.now l.out _ d.used d.number d.size d.bytes g.room; in_piece = g.within; in_out = g.room }
 
 -- the line that starts at `at`
 line : (c : After-end_of-e) → pieces.Line c.args.piece.now c.loop-at.at c.end_of-e.result
@@ -39,7 +39,7 @@ slice_bounds-put_row-end c = omega (arith, line (goal.at.slice_bounds-put_row-en
 pub put_row-len-requires : goal.put_row-len-requires
 put_row-len-requires c =
     let g = c.loop-at.invariant in
-    (c.requires.0, c.requires.1, c.requires.2, g.1, omega (arith, g.0.same, g.0.room))
+    (g.1, omega (arith, g.0.same, g.0.room))
 
 pub loop-at-smaller : goal.loop-at-smaller
 loop-at-smaller c =
@@ -52,7 +52,7 @@ loop-at-preserved c =
     let l = c.loop-at in
     let g = l.invariant.0 in
     let p = c.put_row-len in (
-      numbered.going_more (line_row c.args.aliases.now c.args.likely.now) 2400 c.args.first c.args.piece.now c.args.out.now l.out _ l.at c.next_line-at.result c.end_of-e.result l.next _ l.len p.result g
+      numbered.going_more (line_row c.args.tables.aliases.rows.now c.args.tables.likely.rows.now) 2400 c.args.first c.args.piece.now c.args.out.now l.out _ l.at c.next_line-at.result c.end_of-e.result l.next _ l.len p.result g
           c.loop-at-test.true c.end_of-e.ensures c.next_line-at.ensures (omega (arith, g.same, g.room)) p.ensures.0 p.ensures.1 p.ensures.2 c.wrapping_add_usize-next.ensures.value,
       search rules,
       l.invariant.2,
@@ -62,5 +62,5 @@ pub returns : goal.returns
 returns c =
     let l = c.loop-at in
     let g = l.invariant.0 in
-    let d = numbered.going_end (line_row c.args.aliases.now c.args.likely.now) 2400 c.args.first c.args.piece.now c.args.out.now l.out l.at l.next l.len g c.loop-at-test.false in
-    (laws.rows-given c.args.aliases.now c.args.likely.now c.args.first c.args.piece.now c.requires.0.passes c.args.out.now l.out _ refl refl refl d.used d.number d.size d.bytes g.room, g.within, g.room)
+    let d = numbered.going_end (line_row c.args.tables.aliases.rows.now c.args.tables.likely.rows.now) 2400 c.args.first c.args.piece.now c.args.out.now l.out l.at l.next l.len g c.loop-at-test.false in
+    record { given = laws.rows-given c.args.tables.aliases.rows.now c.args.tables.likely.rows.now c.args.first c.args.piece.now c.args.tables.tested.passes c.args.out.now l.out _ d.used d.number d.size d.bytes g.room; in_piece = g.within; in_out = g.room }

@@ -1,21 +1,14 @@
 -- `subtag::first_of` meets its contract. Assumes nothing.
-use mathlib.Core.Path.{◌∙◌, sym}
 use native.Mathlib.Omega.{arith}
-use Rattle.subtag.specs.Bytes.{is_separator}
-use Rattle.subtag.proofs.Bytes.{by-class, classed}
+use mathlib.Core.Path.{sym, ◌∙◌}
 use Rattle.subtag.proofs.Scanning as scanning
 use Rattle.subtag.proofs.first_of.Goals as goal
 
-pub returns-then-rest-eq0 : goal.returns-then-rest-eq0
-returns-then-rest-eq0 c = scanning.first-none _ (omega arith)
+pub returns-in-len1-up : goal.returns-in-len1-up
+returns-in-len1-up c = c.lower.ensures ∙ scanning.first_byte_lem _ (omega arith) (sym c.is_separator.ensures ∙ c.if-not-is_separator.true)
 
-pub returns-then-separates : goal.returns-then-separates
-returns-then-separates c = scanning.first-sep _ (omega arith) (sym (by-class _ is_separator c.separates.ensures c.class_of-k.ensures (classed _).separator) ∙ c.if-separates.true)
+pub returns-in_default : goal.returns-in_default
+returns-in_default c = scanning.first-none _ (omega arith)
 
-pub lowered-requires : goal.lowered-requires
-lowered-requires c = c.class_of-k.ensures
-
-pub returns : goal.returns
-returns c =
-    c.lowered.ensures
-    ∙ scanning.first_byte_lem _ (omega arith) (sym (by-class _ is_separator c.separates.ensures c.class_of-k.ensures (classed _).separator) ∙ c.if-separates.false)
+pub returns-in_default-2 : goal.returns-in_default-2
+returns-in_default-2 c = scanning.first-sep _ (omega arith) (sym c.is_separator.ensures ∙ c.if-not-is_separator.false)

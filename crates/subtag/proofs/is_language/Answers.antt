@@ -1,15 +1,26 @@
 -- `subtag::is_language` meets its contract. Assumes nothing.
+use native.Mathlib.Omega.{arith}
+use mathlib.Core.Path.{◌∙◌}
 use Rattle.subtag.proofs.Shapes as shapes
+use Rattle.subtag.proofs.is_language.Goals.{in-2, in-2-2, in_default, in_default-2, in_default-3}
 use Rattle.subtag.proofs.is_language.Goals as goal
 
-pub returns-then-len-lt2 : goal.returns-then-len-lt2
-returns-then-len-lt2 c = shapes.language-short _ c.if-len-lt2.true
+pub returns-then-matches : goal.returns-then-matches
+returns-then-matches c =
+    elim c.if-matches-2.branch [
+      | in-2 w ↦ let h = w.in-2 in shapes.language-letters _ (omega arith) (λ e. omega arith) (omega arith)
+      | in-2-2 w ↦ let h = w.in-2 in shapes.language-letters _ (omega arith) (λ e. omega arith) (omega arith)
+      | in_default w ↦ cc
+      | in_default-2 w ↦ cc
+      | in_default-3 w ↦ cc
+    ]
 
-pub returns-then-len-eq4 : goal.returns-then-len-eq4
-returns-then-len-eq4 c = shapes.language-four _ c.if-len-eq4.true
-
-pub returns-then-len-gt8 : goal.returns-then-len-gt8
-returns-then-len-gt8 c = shapes.language-long _ c.if-len-gt8.true
-
-pub returns : goal.returns
-returns c = shapes.language-letters _ c.if-len-lt2.false c.if-len-eq4.false c.if-len-gt8.false
+pub returns-else-matches : goal.returns-else-matches
+returns-else-matches c =
+    elim c.if-matches-2.branch [
+      | in-2 w ↦ cc
+      | in-2-2 w ↦ cc
+      | in_default w ↦ let h = w.in_default in c.if-matches.false ∙ shapes.language-short _ (omega arith)
+      | in_default-2 w ↦ let h = w.in_default in c.if-matches.false ∙ shapes.language-four _ (omega arith)
+      | in_default-3 w ↦ let h = w.in_default in c.if-matches.false ∙ shapes.language-long _ (omega arith)
+    ]

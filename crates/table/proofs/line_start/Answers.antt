@@ -1,24 +1,18 @@
 -- `table::line_start` meets its contract. Assumes nothing.
-use mathlib.Core.Path.{◌≡◌, refl, ap, ◌∙◌}
-use Prim.Native.Nat.{◌+◌, ◌-◌}
-use native.Mathlib.Omega.{arith}
 use borrow.Author.Rules.{rules}
-use Rattle.byte_string.specs.Strings.{end_of}
-use Rattle.byte_string.proofs.Ends.{end-miss}
-use Rattle.table.proofs.Searches.{opens-after}
+use Prim.Native.Nat.{◌-◌}
+use lib.ListN.{take, drop}
+use Rattle.std.proofs.Common.{tests}
+use Rattle.std.proofs.lemmas.Iterator.{IsFirst-from_position}
+use Rattle.std.proofs.lemmas.Iterator.Adapters.{YieldsList-from_rev_slice}
+use Rattle.table.proofs.Searches.{Newline, Other, start-found, start_none}
 use Rattle.table.proofs.line_start.Goals as goal
 
-pub loop-m-init : goal.loop-m-init
-loop-m-init c = (search rules, search rules, refl)
+pub returns-in-Some : goal.returns-in-Some
+returns-in-Some c =
+    let f = IsFirst-from_position _ _ _ Newline Other c.in-Some.ensures.ran (YieldsList-from_rev_slice (take (c.args.from - c.args.lo) (drop c.args.lo c.args.t.now)) cc) (λ x q k. search (rules, tests)) (λ x q k. search (rules, tests)) in
+    start-found _ _ _ (search rules) (search rules) _ f.0 f.1 f.2
 
-pub returns-then-t-m-eq10 : goal.returns-then-t-m-eq10
-returns-then-t-m-eq10 c = record { low = search rules; high = search rules; opens = λ o. opens-after c.args.t.now c.loop-m.m (omega arith) c.if-t-m-eq10.true; ends = c.loop-m.invariant.2 }
-
-pub loop-m-preserved : goal.loop-m-preserved
-loop-m-preserved c =
-    let l = c.loop-m in
-    let e : l.m - 1 + 1 ≡ l.m = omega arith in
-    (omega arith, omega arith, end-miss 10 _ (l.m - 1) (omega arith) c.if-t-m-eq10.false ∙ ap (end_of 10 _) e ∙ l.invariant.2)
-
-pub returns : goal.returns
-returns c = let e : c.args.lo ≡ c.loop-m.m = omega arith in record { low = search rules; high = search rules; opens = λ o. rw e at o; ends = c.loop-m.invariant.2 }
+pub returns-in-None : goal.returns-in-None
+returns-in-None c =
+    start_none _ _ _ (search rules) (search rules) (IsFirst-from_position _ _ _ Newline Other c.in-None.ensures.ran (YieldsList-from_rev_slice (take (c.args.from - c.args.lo) (drop c.args.lo c.args.t.now)) cc) (λ x q k. search (rules, tests)) (λ x q k. search (rules, tests)))

@@ -1,50 +1,46 @@
 -- `table_check::check_hinted` meets its contract. Assumes nothing.
 use mathlib.Core.Path.{sym, ◌∙◌}
-use Rattle.table.specs.Hints.{Indexed}
 use Rattle.table.proofs.Hinting.{hinted-empty}
 use Rattle.standard.specs.Table.{aliases}
 use Rattle.row_shapes.specs.Rows.{kind_is}
 use Rattle.table_check.specs.Verdicts.{use_is}
-use Rattle.table_check.proofs.Ordered.{first-bad, second-bad, third, aliases-used, clear-one, each-table, shape-sorted, ShapedEach, shaped-each, clash-aliases, clash-likely, clash-parents}
+use Rattle.table_check.proofs.Ordered.{handed, first-bad, second-bad, third, aliases-used, clear-one, each-table, shape-sorted, ShapedEach, shaped-each, clash-as, clash-aliases, clash-likely, clash-parents}
 use Rattle.table_check.proofs.check_hinted.Goals as goal
-use Rattle.table_check.proofs.check_hinted.Goals.{Start}
+use Rattle.table_check.proofs.check_hinted.Goals.{Start, After-fill_hints}
 
-shaped : (b : Start) → ShapedEach (use_is b.args.purpose) b.args.a.now b.args.l.now b.args.p.now
+shaped : (b : Start) → let t = b.args.tables in ShapedEach (use_is b.args.purpose) t.aliases.now t.likely.now t.parents.now
 shaped b = shaped-each _ _ _ _ b.requires.0
 
--- the aliases can be searched, with their hints
-indexed : (b : Start) → Indexed b.args.a.now b.args.hints.now
-indexed b = record { sorted = shape-sorted aliases _ (clear-one _ _ _ _ (sym (aliases-used _)) (shaped b).aliases); hinted = b.requires.1 }
+pub indexed-aliases-requires : goal.indexed-aliases-requires
+indexed-aliases-requires c =
+    record { sorted = shape-sorted aliases _ (clear-one _ _ _ _ (sym (aliases-used _)) (shaped (goal.at.indexed-aliases-requires c).Start).aliases); hinted = c.fill_hints.ensures }
 
-pub check_free-v-requires : goal.check_free-v-requires
+pub check_free-requires : goal.check_free-requires
 unfolding kind_is
-check_free-v-requires c =
-    (indexed (goal.at.check_free-v-requires c).Start, (shaped (goal.at.check_free-v-requires c).Start).aliases, c.requires.1)
+check_free-requires c = ((shaped (goal.at.check_free-requires c).Start).aliases, c.fill_hints.ensures)
 
-pub returns-in_default : goal.returns-in_default
+pub check_free-requires-2 : goal.check_free-requires-2
 unfolding kind_is
-returns-in_default c =
-    let s = c.requires.0 in
-    first-bad _ _ _ _ (c.check_free-v.ensures ∙ clash-aliases _ _ _ _ s) c.in_default.is ∙ each-table _ _ _ _ _
-
-pub check_free-w-requires : goal.check_free-w-requires
-unfolding kind_is
-check_free-w-requires c =
-    (indexed (goal.at.check_free-w-requires c).Start, (shaped (goal.at.check_free-w-requires c).Start).likely, hinted-empty _)
-
-pub returns-in_default-w : goal.returns-in_default-w
-unfolding kind_is
-returns-in_default-w c =
-    let s = c.requires.0 in
-    second-bad _ _ _ _ (c.check_free-v.ensures ∙ clash-aliases _ _ _ _ s) c.in-Good.is _ (c.check_free-w.ensures ∙ clash-likely _ _ _ _ s) c.in_default-w.is ∙ each-table _ _ _ _ _
+check_free-requires-2 c = ((shaped (goal.at.check_free-requires-2 c).Start).likely, hinted-empty _)
 
 pub check_walks-requires : goal.check_walks-requires
 unfolding kind_is
-check_walks-requires c =
-    (indexed (goal.at.check_walks-requires c).Start, (shaped (goal.at.check_walks-requires c).Start).parents)
+check_walks-requires c = (shaped (goal.at.check_walks-requires c).Start).parents
 
 pub returns : goal.returns
 unfolding kind_is
 returns c =
     let s = c.requires.0 in
-    third _ _ _ _ (c.check_free-v.ensures ∙ clash-aliases _ _ _ _ s) c.in-Good.is _ c.check_walks.result (c.check_free-w.ensures ∙ clash-likely _ _ _ _ s) c.in-Good-w.is (c.check_walks.ensures ∙ clash-parents _ _ _ _ s) ∙ each-table _ _ _ _ _
+    third _ _ _ (clash-as _ _ _ _ c.indexed-aliases.ensures.0 c.in_ok-check_free.ensures ∙ clash-aliases _ _ _ _ s) (clash-as _ _ _ _ c.indexed-aliases.ensures.0 c.in_ok-check_free-2.ensures ∙ clash-likely _ _ _ _ s) _ (clash-as _ _ _ _ c.indexed-aliases.ensures.0 c.check_walks.ensures ∙ clash-parents _ _ _ _ s) ∙ each-table _ _ _ _ _
+
+pub returns-in_err-check_free : goal.returns-in_err-check_free
+unfolding kind_is
+returns-in_err-check_free c =
+    let s = c.requires.0 in
+    handed _ _ c.from_residual.ensures.1 (first-bad _ _ _ _ (clash-as _ _ _ _ c.indexed-aliases.ensures.0 c.in_err-check_free.ensures ∙ clash-aliases _ _ _ _ s) ∙ each-table _ _ _ _ _)
+
+pub returns-in_err-check_free-2 : goal.returns-in_err-check_free-2
+unfolding kind_is
+returns-in_err-check_free-2 c =
+    let s = c.requires.0 in
+    handed _ _ c.from_residual-in_err-check_free-2.ensures.1 (second-bad _ _ _ (clash-as _ _ _ _ c.indexed-aliases.ensures.0 c.in_ok-check_free.ensures ∙ clash-aliases _ _ _ _ s) _ (clash-as _ _ _ _ c.indexed-aliases.ensures.0 c.in_err-check_free-2.ensures ∙ clash-likely _ _ _ _ s) ∙ each-table _ _ _ _ _)

@@ -1,29 +1,26 @@
 -- `table_check::check_used` meets its contract. Assumes nothing.
-use mathlib.Core.Path.{sym, ap, ◌∙◌}
-use Rattle.table_check.specs.Verdicts.{verdict_is, use_is, fault_by}
+use mathlib.Core.Path.{sym, ◌∙◌}
+use Rattle.table_check.specs.Verdicts.{fault_by, use_is}
+use Rattle.table_check.proofs.Ordered.{handed, first-bad, second-bad, third}
 use Rattle.standard.proofs.Checks.{check-parts}
-use Rattle.table_check.proofs.Ordered.{first-bad, second-bad, third}
 use Rattle.table_check.proofs.check_used.Goals as goal
 
-pub returns-in_default : goal.returns-in_default
+pub returns-in_err-check_each : goal.returns-in_err-check_each
 unfolding fault_by
-returns-in_default c =
-    let a = c.args in
-    first-bad _ _ _ _ c.check_each-v.ensures c.in_default.is ∙ check-parts (use_is a.purpose) a.a.now a.l.now a.p.now
+returns-in_err-check_each c =
+    let t = c.args.tables in
+    handed _ _ c.from_residual.ensures.1 (first-bad _ _ _ _ c.in_err-check_each.ensures ∙ check-parts (use_is c.args.purpose) t.aliases.now t.likely.now t.parents.now)
 
-pub returns-in_default-w : goal.returns-in_default-w
+pub returns-in_err-check_each-2 : goal.returns-in_err-check_each-2
 unfolding fault_by
-returns-in_default-w c =
-    let a = c.args in
-    second-bad _ _ _ _ c.check_each-v.ensures c.in-Good.is _ c.check_each-w.ensures c.in_default-w.is ∙ check-parts (use_is a.purpose) a.a.now a.l.now a.p.now
+returns-in_err-check_each-2 c =
+    let t = c.args.tables in
+    handed _ _ c.from_residual-in_err-check_each-2.ensures.1 (second-bad _ _ _ c.in_ok-check_each.ensures _ c.in_err-check_each-2.ensures ∙ check-parts (use_is c.args.purpose) t.aliases.now t.likely.now t.parents.now)
 
 pub check_clashes-requires : goal.check_clashes-requires
 unfolding fault_by
-check_clashes-requires c =
-    sym c.check_each-w.ensures ∙ ap verdict_is c.in-Good-w.is
+check_clashes-requires c = sym c.in_ok-check_each-2.ensures
 
 pub returns : goal.returns
 unfolding fault_by
-returns c =
-    let a = c.args in
-    third _ _ _ _ c.check_each-v.ensures c.in-Good.is _ c.check_clashes.result c.check_each-w.ensures c.in-Good-w.is c.check_clashes.ensures ∙ check-parts (use_is a.purpose) a.a.now a.l.now a.p.now
+returns c = let t = c.args.tables in third _ _ _ c.in_ok-check_each.ensures c.in_ok-check_each-2.ensures _ c.check_clashes.ensures ∙ check-parts (use_is c.args.purpose) t.aliases.now t.likely.now t.parents.now

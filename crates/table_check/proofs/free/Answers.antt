@@ -10,19 +10,19 @@ pub alias_free-requires : goal.alias_free-requires
 unfolding kind_is shape_of
 alias_free-requires c =
     let p = c.requires in
-    (p.0, shape_is Aliases _ c.in-Aliases.is p.5)
+    shape_is Aliases _ c.in-Aliases.is p.3
 
 pub two_free-requires : goal.two_free-requires
 unfolding kind_is shape_of
 two_free-requires c =
     let p = c.requires in
-    (p.0, likely-threes _ (shape_is Likely _ c.in-Likely.is p.5))
+    likely-threes _ (shape_is Likely _ c.in-Likely.is p.3)
 
 pub parent_free-requires : goal.parent_free-requires
 unfolding kind_is shape_of
 parent_free-requires c =
     let p = c.requires in
-    (p.0, p.1, pass-parents _ c.in-Parents.is p.2, p.3, p.4, parent-threes _ (shape_is Parents _ c.in-Parents.is p.5), p.6)
+    (pass-parents _ c.in-Parents.is p.0, p.1, p.2, parent-threes _ (shape_is Parents _ c.in-Parents.is p.3), p.4)
 
 pub returns-in-Aliases : goal.returns-in-Aliases
 unfolding kind_is free_row

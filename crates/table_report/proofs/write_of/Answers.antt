@@ -3,4 +3,4 @@ use Rattle.table_report.proofs.Written as written
 use Rattle.table_report.proofs.write_of.Goals as goal
 
 pub returns : goal.returns
-returns c = written.line-written _ _ _ _ _ _ _ _ _ _ _ c.put_verdict-at.ensures c.spot_in.ensures.0 c.put_rest.ensures
+returns c = written.line-written _ _ _ _ _ _ _ _ _ _ _ c.put_verdict-at.ensures (written.spot-least _ _ _ c.min.ensures) c.put_rest.ensures

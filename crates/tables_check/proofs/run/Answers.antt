@@ -7,14 +7,17 @@ use lib.Seq.{length-take-le}
 use Rattle.table_report.specs.Line.{told}
 use Rattle.program_io.proofs.Runs.{read_none, is-printed}
 use borrow.Author.Rules.{rules}
+use Rattle.operations.specs.declared.delivery.Answer.{Answer}
+use Rattle.operations.specs.Answer.{answer_of, given_is}
 use Rattle.tables_check.proofs.run.Goals as goal
 
 pub slice_bounds-print-end : goal.slice_bounds-print-end
 slice_bounds-print-end c = sym (length-take-le _ _ (search rules))
 
 pub returns : goal.returns
+unfolding given_is
 returns c =
-    let v = c.check-v in
+    let v = c.verdict_of-verdict in
     let a = c.args in
     let l = c.line_buffer-out in
     let w = c.write-len in
@@ -24,7 +27,7 @@ returns c =
     record {
       read = read_none _ [] (c.begin-2.ensures.1 []);
       verdict = v.result;
-      checked = v.ensures;
+      checked = ap (λ (a : Answer). answer_of a []) v.ensures ∙ c.check.ensures;
       number = refl;
       printed = is-printed b.result p.result _ _ b.ensures.0 p.ensures n;
     }

@@ -1,6 +1,6 @@
 -- `tsv::digits_of` meets its contract. Assumes nothing.
 use native.Mathlib.Omega.{arith}
-use mathlib.Core.Path.{refl}
+use mathlib.Core.Path.{◌≡◌, refl}
 use Rattle.tsv.proofs.Laws as laws
 use Rattle.tsv.proofs.digits_of.Goals as goal
 
@@ -21,4 +21,8 @@ loop-start-preserved c =
     laws.writing_more _ l.rest l.start _ l.bytes l.invariant c.loop-start-test.true c.digit.ensures c.if-rest-eq0.false
 
 pub returns : goal.returns
-returns c = let l = c.loop-start in laws.writing-full _ l.rest l.start l.bytes l.invariant c.loop-start-test.false
+returns c =
+    let l = c.loop-start in
+    let e : l.start ≡ 0 = omega (arith, c.loop-start-test.false) in
+    let w = laws.writing-full _ l.rest l.start l.bytes l.invariant c.loop-start-test.false in
+    rw e at w

@@ -1,21 +1,19 @@
 -- `underline::put_times` meets its contract. Assumes nothing.
+use mathlib.Core.Path.{◌≡◌, sym, ap, ◌∙◌}
+use borrow.Author.Rules.{rules}
+use Prim.Native.Nat.{ℕ, ◌+◌, ◌-◌}
 use native.Mathlib.Omega.{arith}
-use mathlib.Core.Path.{◌≡◌, refl, ◌∙◌}
-use lib.ListN.{length-set}
-use Rattle.underline.proofs.Marking as laws
+use lib.ListN.{length, take, drop, length-drop, length-replicate}
+use lib.Seq.{length-take-le}
+use Rattle.std.specs.Prelude.{replicate}
+use Rattle.byte_string.proofs.Stores.{copied}
 use Rattle.underline.proofs.put_times.Goals as goal
-
-pub loop-i-init : goal.loop-i-init
-loop-i-init c = (omega arith, refl, refl)
-
-pub loop-i-preserved : goal.loop-i-preserved
-loop-i-preserved c =
-    let l = c.loop-i in
-    (omega arith, length-set l.out _ _ ∙ l.invariant.1, laws.times_more _ _ _ _ _ l.invariant.2)
 
 pub returns : goal.returns
 returns c =
-    let l = c.loop-i in
     let a = c.args in
-    let e : l.i ≡ a.n = omega arith in
-    laws.times-all _ _ _ _ _ _ l.invariant.2 e
+    let n : length (replicate a.n a.byte) ≡ a.n = length-replicate {A = ℕ} a.n a.byte in
+    let d = length-drop a.at a.out.now in
+    let t = length-take-le (a.at + a.n - a.at) (drop a.at a.out.now) (omega arith) in
+    let m : length (take (a.at + a.n - a.at) (drop a.at a.out.now)) ≡ a.n = omega arith in
+    (ap (λ k. a.at + k) (sym n), copied a.out.now (replicate a.n a.byte) c.fill.new.self a.at _ (c.fill.ensures.after (λ y h. search rules) ∙ ap (λ k. replicate k a.byte) m) (omega arith) (omega (arith, n)))

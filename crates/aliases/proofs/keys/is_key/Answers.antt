@@ -2,12 +2,11 @@
 use Rattle.aliases.proofs.Slots.{key-leads, no_key}
 use Rattle.aliases.proofs.keys.is_key.Goals as goal
 
-pub returns-then-v-eq0 : goal.returns-then-v-eq0
-returns-then-v-eq0 c =
-    let p = c.requires in
-    no_key _ _ _ _ _ _ _ p.0.hinted c.seed.ensures.0 c.slot_from-s.ensures.0 c.hint-v.ensures c.if-v-eq0.true
-
 pub search-requires : goal.search-requires
 search-requires c =
-    let p = c.requires in
-    (p.0.sorted, p.1, key-leads _ _ _ _ _ _ _ p.0.hinted c.seed.ensures.0 c.slot_from-s.ensures.0 c.hint-v.ensures)
+    (c.requires, key-leads _ _ _ _ _ _ _ c.args.aliases.indexed.hinted c.seed.ensures.0 c.slot_from.ensures.0 c.hint-hint.ensures)
+
+pub returns-else-hint-ne0 : goal.returns-else-hint-ne0
+returns-else-hint-ne0 c =
+    let e = c.if-hint-ne0.false in
+    rw e (no_key _ _ _ _ _ _ _ c.args.aliases.indexed.hinted c.seed.ensures.0 c.slot_from.ensures.0 c.hint-hint.ensures e)

@@ -19,7 +19,3 @@ returns-in-Region c = let p = c.put-in-Region in put_is _ _ _ _ _ c.in-Region.is
 pub returns-in-Variant : goal.returns-in-Variant
 unfolding kind_key
 returns-in-Variant c = let p = c.put-in-Variant in put_is _ _ _ _ _ c.in-Variant.is refl p.ensures.0 p.ensures.1
-
-pub returns-in-Unknown : goal.returns-in-Unknown
-unfolding kind_key
-returns-in-Unknown c = let p = c.put-in-Unknown in put_is _ _ _ _ _ c.in-Unknown.is refl p.ensures.0 p.ensures.1

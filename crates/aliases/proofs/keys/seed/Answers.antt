@@ -21,7 +21,3 @@ returns-in-Region c = seed-is _ _ c.in-Region.is refl (omega arith)
 pub returns-in-Variant : goal.returns-in-Variant
 unfolding slot_of slot_from slot_step kind_key
 returns-in-Variant c = seed-is _ _ c.in-Variant.is refl (omega arith)
-
-pub returns-in-Unknown : goal.returns-in-Unknown
-unfolding slot_of slot_from slot_step kind_key
-returns-in-Unknown c = seed-is _ _ c.in-Unknown.is refl (omega arith)

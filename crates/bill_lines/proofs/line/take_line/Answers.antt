@@ -6,32 +6,31 @@ use Rattle.bill_lines.proofs.line.take_line.Goals as goal
 
 pub returns-then-c-ge1000000 : goal.returns-then-c-ge1000000
 returns-then-c-ge1000000 c =
-    let k = c.only.ensures in (
-      bounded-only c.only.result 18 0 0 k,
-      c.requires.5,
-      λ ls g. at-18 _ ls c.args.c _ _ c.args.line.now g c.only.result k c.if-c-ge1000000.true,
-    )
+    let k = c.only.ensures in
+    (bounded-only c.only.result 18 0 0 k, c.requires.2, λ ls g. at-18 _ ls c.args.c _ _ c.args.line.now g c.only.result k c.if-c-ge1000000.true)
 
-pub returns-then-member-eq0 : goal.returns-then-member-eq0
-returns-then-member-eq0 c =
+pub returns-in_default : goal.returns-in_default
+returns-in_default c =
     let k = c.counted.ensures in (
-      more-bounded c.args.c _ c.args.c.keys (c.args.c.refused + 1) k c.requires.4 c.if-c-ge1000000.false c.requires.4.keys (omega arith),
-      c.requires.5,
-      λ ls g. at-refused _ ls c.args.c _ _ c.args.line.now g c.counted.result c.usage_of-u.result _ k c.if-c-ge1000000.false c.usage_of-u.ensures.0 c.if-member-eq0.true,
+      more-bounded c.args.c _ c.args.c.keys (c.args.c.refused + 1) k c.requires.1 c.if-c-ge1000000.false c.requires.1.keys (omega arith),
+      c.requires.2,
+      λ ls g. at-refused _ ls c.args.c _ _ c.args.line.now g c.counted.result c.usage_of.new.out k c.if-c-ge1000000.false c.in_default.ensures.0,
     )
 
-pub returns-then-n-gt512 : goal.returns-then-n-gt512
-returns-then-n-gt512 c =
-    let k = c.only-then-n-gt512.ensures in (
-      bounded-only c.only-then-n-gt512.result 17 0 0 k,
-      c.add_used-n.ensures.0,
-      λ ls g. at-17 _ ls c.args.c _ _ c.args.line.now g c.only-then-n-gt512.result c.usage_of-u.result _ c.usage_of-u.ensures.0 c.if-member-eq0.false c.if-c-ge1000000.false _ _ c.add_used-n.result c.add_used-n.ensures.1 k c.if-n-gt512.true,
+pub returns-in-None : goal.returns-in-None
+returns-in-None c =
+    let k = c.only-in-None.ensures in
+    let a = c.in-None.ensures in (
+      bounded-only c.only-in-None.result 17 0 0 k,
+      a.0,
+      λ ls g. at-17 _ ls c.args.c _ _ c.args.line.now g c.only-in-None.result _ _ c.in-Some.ensures.0 c.if-c-ge1000000.false _ _ 513 a.2 k (omega arith),
     )
 
-pub returns : goal.returns
-returns c =
-    let k = c.counted-2.ensures in (
-      more-bounded c.args.c _ c.add_used-n.result c.args.c.refused k c.requires.4 c.if-c-ge1000000.false c.if-n-gt512.false (omega arith),
-      c.add_used-n.ensures.0,
-      λ ls g. at_added _ ls c.args.c _ _ c.args.line.now g c.counted-2.result c.usage_of-u.result _ c.usage_of-u.ensures.0 c.if-member-eq0.false c.if-c-ge1000000.false _ _ c.add_used-n.result c.add_used-n.ensures.1 k c.if-n-gt512.false,
+pub returns-in-Some-add_used : goal.returns-in-Some-add_used
+returns-in-Some-add_used c =
+    let k = c.counted-in-Some-add_used.ensures in
+    let a = c.in-Some-add_used.ensures in (
+      more-bounded c.args.c _ c.in-Some-add_used.n c.args.c.refused k c.requires.1 c.if-c-ge1000000.false a.1 (omega arith),
+      a.0,
+      λ ls g. at_added _ ls c.args.c _ _ c.args.line.now g c.counted-in-Some-add_used.result _ _ c.in-Some.ensures.0 c.if-c-ge1000000.false _ _ _ a.2 k a.1,
     )

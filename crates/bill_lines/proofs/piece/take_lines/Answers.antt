@@ -1,6 +1,5 @@
 -- `bill_lines::piece::take_lines` meets its contract. Assumes nothing.
 use mathlib.Core.Path.{refl, sym, ◌∙◌}
-use Prim.Native.Nat.{◌-◌}
 use native.Mathlib.Omega.{arith}
 use borrow.Author.Rules.{rules}
 use Rattle.lines.proofs.Pieces.{Line, line, next-above}
@@ -10,7 +9,7 @@ use Rattle.bill_lines.proofs.piece.take_lines.Goals.{After-end_of-e}
 
 pub loop-at-init : goal.loop-at-init
 loop-at-init c =
-    (refl, refl, refl, c.requires.4, c.requires.5, λ ls g. taken_none _ _ ls _ _ _ g)
+    (refl, refl, refl, c.requires.1, c.requires.2, λ ls g. taken_none _ _ ls _ _ _ g)
 
 pub returns-then-c-ne0 : goal.returns-then-c-ne0
 returns-then-c-ne0 c =
@@ -33,7 +32,7 @@ slice_bounds-take_line-end c = let l = the-line (goal.at.slice_bounds-take_line-
 pub take_line-c-requires : goal.take_line-c-requires
 take_line-c-requires c =
     let l = c.loop-at in
-    (c.requires.0, c.requires.1, c.requires.2, omega (arith, c.requires.3, l.invariant.2), l.invariant.3, l.invariant.4)
+    (omega (arith, c.requires.0, l.invariant.2), l.invariant.3, l.invariant.4)
 
 pub loop-at-smaller : goal.loop-at-smaller
 loop-at-smaller c = omega (arith, next-above c.args.piece.now c.loop-at.at c.end_of-e.result c.next_line-at.result c.loop-at-test.true c.end_of-e.ensures c.next_line-at.ensures, c.loop-at-test.true)
@@ -42,8 +41,8 @@ pub loop-at-preserved : goal.loop-at-preserved
 loop-at-preserved c =
     let v = c.take_line-c in
     let l = c.loop-at in (
-      v.ensures.1.keys ∙ sym c.requires.5.keys,
-      v.ensures.1.counts ∙ sym c.requires.5.counts,
+      v.ensures.1.keys ∙ sym c.requires.2.keys,
+      v.ensures.1.counts ∙ sym c.requires.2.counts,
       search rules,
       v.ensures.0,
       v.ensures.1,

@@ -1,6 +1,5 @@
 -- `bill_lines::text::put_rows` meets its contract. Assumes nothing.
 use mathlib.Core.Path.{refl}
-use Prim.Native.Nat.{◌-◌}
 use native.Mathlib.Omega.{arith}
 use borrow.Author.Rules.{rules}
 use Rattle.bill_lines.proofs.Texts.{rows_none, rows_more, rows_all}

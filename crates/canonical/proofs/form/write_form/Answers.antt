@@ -13,10 +13,10 @@ sections b = formed.lent b.args.id.now b.requires.0 b.args.p b.requires.1
 
 -- the sizes add up
 size : (c : After-write_variants-variants)
-    → c.write_variants-variants.result + length (formed.e_bytes c.args.aliases.now c.args.id.now c.requires.2.passes c.requires.0 c.args.p c.requires.1 c.write_three-ends.result c.write_three-ends.ensures.0)
-    + length (formed.p_bytes c.args.aliases.now c.args.id.now c.requires.2.passes c.requires.0 c.args.p c.requires.1 c.write_three-ends.result c.write_three-ends.ensures.0) ≤ 476
+    → c.write_variants-variants.result + length (formed.e_bytes c.args.aliases.rows.now c.args.id.now c.requires.2 c.requires.0 c.args.p c.requires.1 c.write_three-ends.result c.write_three-ends.ensures.0)
+    + length (formed.p_bytes c.args.aliases.rows.now c.args.id.now c.requires.2 c.requires.0 c.args.p c.requires.1 c.write_three-ends.result c.write_three-ends.ensures.0) ≤ 476
 size c =
-    formed.sizes c.args.aliases.now c.args.id.now c.requires.2.passes c.requires.0 c.args.p c.requires.1 c.write_three-ends.result c.write_three-ends.ensures.0 _ c.write_variants-variants.ensures.0
+    formed.sizes c.args.aliases.rows.now c.args.id.now c.requires.2 c.requires.0 c.args.p c.requires.1 c.write_three-ends.result c.write_three-ends.ensures.0 _ c.write_variants-variants.ensures.0
 
 pub slice_bounds-write_variants-count : goal.slice_bounds-write_variants-count
 slice_bounds-write_variants-count c = (sections (goal.at.slice_bounds-write_variants-count c).Start).low
@@ -29,7 +29,7 @@ slice_bounds-write_variants-end c = let l = sections (goal.at.slice_bounds-write
 
 pub write_variants-variants-requires : goal.write_variants-variants-requires
 write_variants-variants-requires c =
-    let r = formed.variants-ready c.args.aliases.now c.args.id.now c.requires.2.passes c.requires.0 c.args.p c.requires.1 c.write_three-ends.result c.write_three-ends.ensures.0 in
+    let r = formed.variants-ready c.args.aliases.rows.now c.args.id.now c.requires.2 c.requires.0 c.args.p c.requires.1 c.write_three-ends.result c.write_three-ends.ensures.0 in
     (r.0, r.1, r.2, c.requires.2, r.3, omega (arith, r.4))
 
 pub slice_bounds-write_extensions-count : goal.slice_bounds-write_extensions-count
@@ -44,7 +44,7 @@ slice_bounds-write_extensions-end c = let l = sections (goal.at.slice_bounds-wri
 pub write_extensions-extensions-requires : goal.write_extensions-extensions-requires
 write_extensions-extensions-requires c =
     let s = size (goal.at.write_extensions-extensions-requires c).After-write_variants-variants in
-    let r = formed.extensions-ready c.args.aliases.now c.args.id.now c.requires.2.passes c.requires.0 c.args.p c.requires.1 c.write_three-ends.result c.write_three-ends.ensures.0 in
+    let r = formed.extensions-ready c.args.aliases.rows.now c.args.id.now c.requires.2 c.requires.0 c.args.p c.requires.1 c.write_three-ends.result c.write_three-ends.ensures.0 in
     (omega (arith, s), omega (arith, s), r.0, r.1, r.2)
 
 pub slice_bounds-put_normalised-count : goal.slice_bounds-put_normalised-count
@@ -61,6 +61,6 @@ slice_bounds-count_subtags-end c = let s = size (goal.at.slice_bounds-count_subt
 
 pub returns : goal.returns
 returns c =
-    let all = formed.all-written c.args.aliases.now c.args.id.now c.requires.2.passes c.requires.0 c.args.p c.requires.1 c.write_three-ends.result c.write_three-ends.ensures.0 c.args.out.now _ _ _ _ _ _ _ c.requires.3 c.write_three-ends.ensures.1 c.write_variants-variants.ensures.0 c.write_variants-variants.ensures.1 c.write_extensions-extensions.ensures.0 c.write_extensions-extensions.ensures.2 c.write_extensions-extensions.ensures.1 c.put_normalised-len.ensures.0 c.put_normalised-len.ensures.1 in
-    let is = formed.form-is c.args.aliases.now c.args.id.now c.requires.2.passes c.requires.0 c.args.p c.requires.1 c.write_three-ends.result c.write_three-ends.ensures.0 c.args.out.now _ _ _ _ _ _ _ c.requires.3 c.write_three-ends.ensures.1 c.write_variants-variants.ensures.0 c.write_variants-variants.ensures.1 c.write_extensions-extensions.ensures.0 c.write_extensions-extensions.ensures.2 c.write_extensions-extensions.ensures.1 c.put_normalised-len.ensures.0 c.put_normalised-len.ensures.1 _ c.count_subtags-count.ensures in
+    let all = formed.all-written c.args.aliases.rows.now c.args.id.now c.requires.2 c.requires.0 c.args.p c.requires.1 c.write_three-ends.result c.write_three-ends.ensures.0 c.args.out.now _ _ _ _ _ _ _ c.requires.3 c.write_three-ends.ensures.1 c.write_variants-variants.ensures.0 c.write_variants-variants.ensures.1 c.write_extensions-extensions.ensures.0 c.write_extensions-extensions.ensures.2 c.write_extensions-extensions.ensures.1 c.put_normalised-len.ensures.0 c.put_normalised-len.ensures.1 in
+    let is = formed.form-is c.args.aliases.rows.now c.args.id.now c.requires.2 c.requires.0 c.args.p c.requires.1 c.write_three-ends.result c.write_three-ends.ensures.0 c.args.out.now _ _ _ _ _ _ _ c.requires.3 c.write_three-ends.ensures.1 c.write_variants-variants.ensures.0 c.write_variants-variants.ensures.1 c.write_extensions-extensions.ensures.0 c.write_extensions-extensions.ensures.2 c.write_extensions-extensions.ensures.1 c.put_normalised-len.ensures.0 c.put_normalised-len.ensures.1 _ c.count_subtags-count.ensures in
     (is, omega (arith, all.0), all.1)

@@ -7,5 +7,5 @@ use Rattle.canonical.proofs.lsr.after_separator.Goals as goal
 pub returns-then-at-end : goal.returns-then-at-end
 returns-then-at-end c = (sym (places.behind _ _ c.if-at-end.true), omega arith)
 
-pub returns : goal.returns
-returns c = (sym (places.at_once _ _ c.if-at-end.false), omega arith)
+pub returns-else-at-end : goal.returns-else-at-end
+returns-else-at-end c = (sym (places.at_once _ _ c.if-at-end.false), omega arith)

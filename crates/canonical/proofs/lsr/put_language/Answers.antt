@@ -1,5 +1,6 @@
 -- `canonical::lsr::put_language` meets its contract. Assumes nothing.
 use native.Mathlib.Omega.{arith}
+use mathlib.Core.Logic.{⊎_elim}
 use mathlib.Core.Path.{sym, ap, ◌∙◌}
 use Prim.Native.Nat.{ℕ, ◌+◌}
 use lib.ListN.{take, length-map}
@@ -25,8 +26,5 @@ returns-in-Language c =
 
 pub returns-in-Script : goal.returns-in-Script
 returns-in-Script c =
-    front.wrote-key c.args.id.now c.args.out.now _ _ _ _ _ c.put-n.ensures.0 c.put-n.ensures.1 c.put.ensures.0 c.put.ensures.1 (front.as-script c.args.id.now c.requires.0 c.args.p c.requires.1 c.in-Script.is) (omega arith)
-
-pub returns-in-Root : goal.returns-in-Root
-returns-in-Root c =
-    front.wrote-key c.args.id.now c.args.out.now _ _ _ _ _ c.put-n.ensures.0 c.put-n.ensures.1 c.put-in-Root.ensures.0 c.put-in-Root.ensures.1 (front.as-root c.args.id.now c.requires.0 c.args.p c.requires.1 c.in-Root.is) (omega arith)
+    let und = ⊎_elim (front.as-script c.args.id.now c.requires.0 c.args.p c.requires.1) (front.as-root c.args.id.now c.requires.0 c.args.p c.requires.1) c.in-Script.is in
+    front.wrote-key c.args.id.now c.args.out.now _ _ _ _ _ c.put-n.ensures.0 c.put-n.ensures.1 c.put.ensures.0 c.put.ensures.1 und (omega arith)

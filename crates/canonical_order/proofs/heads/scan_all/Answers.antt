@@ -1,72 +1,49 @@
 -- `canonical_order::heads::scan_all` meets its contract. Assumes nothing.
-use mathlib.Core.Path.{◌∙◌}
-use Prim.Native.Nat.{◌+◌, ◌≤◌, ◌<◌}
+use mathlib.Core.Path.{◌≡◌}
 use native.Mathlib.Omega.{arith}
-use lib.ListN.{length-set}
+use Prim.Native.Nat.{◌+◌, ◌<◌, ◌≤◌}
 use Rattle.canonical_order.proofs.Picks as picks
-use Rattle.canonical_order.proofs.Keyed as keyed
+use Rattle.canonical_order.proofs.Scanned as scanned
 use Rattle.canonical_order.proofs.heads.scan_all.Goals as goal
-use Rattle.canonical_order.proofs.heads.scan_all.Goals.{After-scan-t}
+use Rattle.canonical_order.proofs.heads.scan_all.Goals.{After-scan, After-head_of-head}
 
 pub loop-at-init : goal.loop-at-init
-loop-at-init c =
-    keyed.scanning-start _ _ _ _ c.requires.0 c.requires.1 c.requires.3 c.requires.4
+loop-at-init c = scanned.scanning-start _ _ _ c.requires.0 c.requires.1 c.requires.3
 
 pub overflow_add-start : goal.overflow_add-start
 overflow_add-start c = omega (arith, c.loop-at.invariant.fits)
 
-pub slice_bounds-scan-count : goal.slice_bounds-scan-count
-slice_bounds-scan-count c = omega (arith, c.loop-at.invariant.fits)
+stepped : (c : After-scan) → picks.Stepped c.args.s.now c.loop-at.at c.scan.result
+stepped c = picks.stepped _ _ _ c.loop-at-test.true c.loop-at.invariant.begins c.scan.ensures
 
-pub slice_bounds-scan-start : goal.slice_bounds-scan-start
-slice_bounds-scan-start c = omega (arith, c.loop-at.invariant.fits)
+behind : (c : After-head_of-head) → c.head_of-head.result.next ≡ c.loop-at.at + 1 + c.scan.result.len
+behind c = scanned.ends-behind _ _ _ _ c.head_of-head.ensures
 
-pub slice_bounds-scan-end : goal.slice_bounds-scan-end
-slice_bounds-scan-end c = omega (arith, c.loop-at.invariant.fits)
-
-stepped : (c : After-scan-t)
-    → picks.Stepped c.args.s.now c.loop-at.at c.scan-t.result
-stepped c = picks.stepped _ _ _ c.loop-at-test.true c.loop-at.invariant.begins c.scan-t.ensures
-
--- what omega needs of the places
-bounds : (c : After-scan-t)
-    → (c.loop-at.i + c.loop-at.i < 256) × (c.loop-at.at + 1 + c.scan-t.result.len ≤ 256)
+bounds : (c : After-scan) → (c.loop-at.count + c.loop-at.count < 256) × (c.loop-at.at + 1 + c.scan.result.len ≤ 256)
 bounds c =
     let l = c.loop-at.invariant in
     (omega (arith, l.few, l.fits), omega (arith, (stepped c).on.fits))
 
-pub offset_bounds-keys-i : goal.offset_bounds-keys-i
-offset_bounds-keys-i c = omega (arith, bounds (goal.at.offset_bounds-keys-i c).After-scan-t, c.loop-at.invariant.room, c.loop-at.invariant.space)
+pub head_of-head-requires : goal.head_of-head-requires
+head_of-head-requires c = omega (arith, bounds (goal.at.head_of-head-requires c).After-scan)
 
-pub bounds-keys-i : goal.bounds-keys-i
-bounds-keys-i c = omega (arith, bounds (goal.at.bounds-keys-i c).After-scan-t, c.loop-at.invariant.room, c.loop-at.invariant.space)
+pub offset_bounds-heads-count : goal.offset_bounds-heads-count
+offset_bounds-heads-count c = omega (arith, bounds (goal.at.offset_bounds-heads-count c).After-scan, c.loop-at.invariant.room)
 
-pub offset_bounds-places-i : goal.offset_bounds-places-i
-offset_bounds-places-i c = omega (arith, bounds (goal.at.offset_bounds-places-i c).After-scan-t, c.loop-at.invariant.room, c.loop-at.invariant.space)
+pub bounds-heads-count : goal.bounds-heads-count
+bounds-heads-count c = omega (arith, bounds (goal.at.bounds-heads-count c).After-scan, c.loop-at.invariant.room)
 
-pub bounds-places-i : goal.bounds-places-i
-bounds-places-i c = omega (arith, bounds (goal.at.bounds-places-i c).After-scan-t, c.loop-at.invariant.room, c.loop-at.invariant.space)
-
-pub overflow_add-at : goal.overflow_add-at
-overflow_add-at c = omega (arith, bounds (goal.at.overflow_add-at c).After-scan-t, c.loop-at.invariant.room, c.loop-at.invariant.space)
-
-pub overflow_add-i : goal.overflow_add-i
-overflow_add-i c = omega (arith, bounds (goal.at.overflow_add-i c).After-scan-t, c.loop-at.invariant.room, c.loop-at.invariant.space)
+pub overflow_add-count : goal.overflow_add-count
+overflow_add-count c = omega (arith, bounds (goal.at.overflow_add-count c).After-scan)
 
 pub loop-at-smaller : goal.loop-at-smaller
-loop-at-smaller c = omega (arith, (stepped (goal.at.loop-at-smaller c).After-scan-t).on.fits)
+loop-at-smaller c = omega (arith, (stepped (goal.at.loop-at-smaller c).After-scan).on.fits, behind (goal.at.loop-at-smaller c).After-head_of-head)
 
 pub loop-at-preserved : goal.loop-at-preserved
 loop-at-preserved c =
-    keyed.scanning-next _ _ _ _ _ _ c.loop-at.invariant _ _ (stepped (goal.at.loop-at-preserved c).After-scan-t) c.requires.2 c.head_key.ensures
-
-pub offset_bounds-places-i-2 : goal.offset_bounds-places-i-2
-offset_bounds-places-i-2 c = omega (arith, c.loop-at.invariant.few, c.loop-at.invariant.fits, c.loop-at.invariant.space)
-
-pub bounds-places-i-2 : goal.bounds-places-i-2
-bounds-places-i-2 c = omega (arith, c.loop-at.invariant.few, c.loop-at.invariant.fits, c.loop-at.invariant.space)
+    scanned.scanning-next _ _ _ _ _ c.loop-at.invariant _ _ (stepped (goal.at.loop-at-preserved c).After-scan) c.requires.2 c.head_of-head.ensures
 
 pub returns : goal.returns
 returns c =
     let j = c.loop-at.invariant in
-    (omega (arith, j.few, j.fits), keyed.scanned-keys _ _ _ _ _ _ j c.loop-at-test.false, keyed.scanned-places _ _ _ _ _ _ j c.loop-at-test.false c.requires.2, j.room, length-set c.loop-at.places c.loop-at.i c.loop-at.at ∙ j.space)
+    (omega (arith, j.few, j.fits), scanned.scanned-heads _ _ _ _ _ j c.loop-at-test.false, j.room)

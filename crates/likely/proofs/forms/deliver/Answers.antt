@@ -1,18 +1,16 @@
 -- `likely::forms::deliver` meets its contract. Assumes nothing.
-use Rattle.likely.proofs.Delivered.{given-long, given-short, given-done, room-four, over, upto}
+use mathlib.Core.Path.{sym, ◌∙◌}
+use Rattle.likely.proofs.Delivered.{given-long, given-short, given-done, room-four}
 use Rattle.likely.proofs.forms.deliver.Goals as goal
 
-pub returns-then-n-gt255 : goal.returns-then-n-gt255
-returns-then-n-gt255 c = given-long _ _ (over c.length_of-n.ensures c.if-n-gt255.true)
+pub returns-in_default : goal.returns-in_default
+returns-in_default c = given-long _ _ (sym c.in_default.is ∙ c.form_length.ensures)
 
 pub returns-then-out-n : goal.returns-then-out-n
-returns-then-out-n c = let e = c.length_of-n.ensures in given-short _ _ (upto e c.if-n-gt255.false) (over e c.if-out-n.true)
+returns-then-out-n c = given-short _ _ _ (sym c.in-Some.is ∙ c.form_length.ensures) c.if-out-n.true
 
-pub put_form-len-requires : goal.put_form-len-requires
-put_form-len-requires c = room-four c.args.language.now c.args.script.now c.args.region.now c.args.rest.now c.args.out.now _ c.length_of-n.ensures c.if-n-gt255.false c.if-out-n.false
+pub put_form-requires : goal.put_form-requires
+put_form-requires c = let p = c.args.parts in room-four p.language.now p.script.now p.region.now c.args.rest.now c.args.out.now _ (sym c.in-Some.is ∙ c.form_length.ensures) c.if-out-n.false
 
 pub returns : goal.returns
-returns c =
-    let e = c.length_of-n.ensures in
-    let p = c.put_form-len in
-    given-done _ _ _ _ (upto e c.if-n-gt255.false) (upto e c.if-out-n.false) p.ensures.0 p.ensures.1
+returns c = given-done _ _ _ (sym c.in-Some.is ∙ c.form_length.ensures) _ _ c.if-out-n.false c.put_form.ensures.0 c.put_form.ensures.1

@@ -1,24 +1,25 @@
 -- `likely::forms::form_by_parts` meets its contract. Assumes nothing.
-use mathlib.Core.Path.{sym, ap, ◌∙◌}
-use mathlib.Core.Bool.{true}
-use mathlib.Core.List.{[]}
-use mathlib.Core.Option.{some}
-use native.Mathlib.Omega.{arith}
-use lib.Seq.{length-take-le}
-use Rattle.likely.proofs.Delivered.{known-are, ready-is, made_none, over-are, filled-some, made_some, then-given}
+use mathlib.Core.Path.{ap, ◌∙◌}
+use mathlib.Core.Bool.{not}
+use Rattle.likely.proofs.Delivered.{known-are, room-known, room-again, none-of, some-of, made_none, made_some, made-whole, made-long, made-minimal, then-given}
 use Rattle.likely.proofs.forms.form_by_parts.Goals as goal
 
-pub returns-then-not-found : goal.returns-then-not-found
-returns-then-not-found c = λ q.
-    let k = known-are _ _ _ _ _ c.known-s.ensures c.known-r.ensures in
-    made_none _ _ _ _ _ _ _ k (c.row_for-v.ensures (ready-is _ _ _ _ k q.first)) _ c.if-not-found.true
+pub returns-in_default : goal.returns-in_default
+returns-in_default c = λ q.
+    let k = known-are _ _ _ _ _ c.known.ensures c.known-2.ensures in
+    made_none _ _ _ _ _ _ k (c.in_default.ensures (room-known _ _ _ k q))
 
-pub slice_bounds-language_of-end : goal.slice_bounds-language_of-end
-slice_bounds-language_of-end c = let k = c.cuts_of-c.ensures in sym (length-take-le _ _ (omega arith))
+pub returns-then-not-shorten : goal.returns-then-not-shorten
+returns-then-not-shorten c = λ q.
+    let k = known-are _ _ _ _ _ c.known.ensures c.known-2.ensures in
+    then-given _ _ _ _ c.deliver.ensures (made-whole _ _ _ _ c.if-not-shorten.true ∙ made_some _ _ _ _ _ _ k (c.in-Some.ensures (room-known _ _ _ k q)))
+
+pub returns-then-is_none : goal.returns-then-is_none
+returns-then-is_none c = λ q.
+    let k = known-are _ _ _ _ _ c.known.ensures c.known-2.ensures in
+    then-given _ _ _ _ (made-long _ _ _ _ _ (none-of _ _ c.form_length.ensures (c.is_none.ensures ∙ ap not c.if-is_none.true))) (made_some _ _ _ _ _ _ k (c.in-Some.ensures (room-known _ _ _ k q)))
 
 pub returns : goal.returns
 returns c = λ q.
-    let k = known-are _ _ _ _ _ c.known-s.ensures c.known-r.ensures in
-    let o = over-are _ _ _ _ _ _ _ c.cuts_of-c.ensures.2 c.language_of.ensures c.first_of.ensures c.first_of-2.ensures in
-    let z = filled-some true _ [] _ _ _ _ k (c.row_for-v.ensures (ready-is _ _ _ _ k q.first)) c.if-not-found.false ∙ ap some (sym o) in
-    then-given _ _ _ _ (c.finish.ensures (q.again _ z)) (made_some _ _ _ _ _ z)
+    let k = known-are _ _ _ _ _ c.known.ensures c.known-2.ensures in
+    then-given _ _ _ _ c.deliver-2.ensures (made-minimal _ _ _ _ _ c.if-not-shorten.false (some-of _ _ c.form_length.ensures (c.is_none.ensures ∙ ap not c.if-is_none.false)) (c.minimised.ensures (room-again _ _ _ _ k q c.in-Some.ensures)) ∙ made_some _ _ _ _ _ _ k (c.in-Some.ensures (room-known _ _ _ k q)))

@@ -1,19 +1,13 @@
 -- `likely::lsr::fits` meets its contract. Assumes nothing.
-use Rattle.likely.proofs.Lookups.{misfit-row, misfit-script, fit-region, script-cut, region-cut}
+use mathlib.Core.List.{[]}
+use Rattle.likely.proofs.Lookups.{misfit-row, misfit-script, fit-region}
 use Rattle.likely.proofs.lsr.fits.Goals as goal
 
-pub returns-then-not-found : goal.returns-then-not-found
-returns-then-not-found c = λ q. let f = c.find_row-v in misfit-row _ _ _ _ _ (record { value = f.ensures.result_value q; yes = f.ensures.found_after q }) c.if-not-found.true
+pub returns-in_default : goal.returns-in_default
+returns-in_default c = λ q. misfit-row _ _ _ (c.in_default.ensures q)
 
-pub returns-then-not-first_is : goal.returns-then-not-first_is
-returns-then-not-first_is c = λ q.
-    let f = c.find_row-v in
-    misfit-script _ _ _ _ _ _ (record { value = f.ensures.result_value q; yes = f.ensures.found_after q }) c.if-not-found.false
-    (script-cut _ _ _ c.cuts_of-c.ensures.2) c.first_is.ensures c.if-not-first_is.true
+pub returns-then-same : goal.returns-then-same
+returns-then-same c = λ q. fit-region _ _ _ _ _ (c.in-Some.ensures q) c.cut_value-row.ensures _ _ c.first_of.ensures c.same.ensures c.first_of-then-same.ensures _ c.if-same.true c.same-then-same.ensures
 
-pub returns : goal.returns
-returns c = λ q.
-    let f = c.find_row-v in
-    let k = c.cuts_of-c in
-    fit-region _ _ _ _ _ _ _ _ (record { value = f.ensures.result_value q; yes = f.ensures.found_after q }) c.if-not-found.false
-    (script-cut _ _ _ k.ensures.2) (region-cut _ _ _ k.ensures.2) c.first_is.ensures c.if-not-first_is.false c.first_is-2.ensures
+pub returns-else-same : goal.returns-else-same
+returns-else-same c = λ q. misfit-script _ _ _ _ _ (c.in-Some.ensures q) c.cut_value-row.ensures _ [] c.first_of.ensures c.same.ensures c.if-same.false

@@ -1,10 +1,10 @@
 -- `likely::parts::first_of` meets its contract. Assumes nothing.
-use native.Mathlib.Omega.{arith}
+use Rattle.std.proofs.Common.{rules, tests}
 use Rattle.likely.proofs.Lookups.{pick-none, pick_some}
 use Rattle.likely.proofs.parts.first_of.Goals as goal
 
-pub returns-then-first-eq0 : goal.returns-then-first-eq0
-returns-then-first-eq0 c = pick-none _ _ (omega arith)
+pub returns-then-is_empty : goal.returns-then-is_empty
+returns-then-is_empty c = pick-none _ _ (search (rules, tests))
 
-pub returns : goal.returns
-returns c = pick_some _ _ (λ e. omega arith)
+pub returns-else-is_empty : goal.returns-else-is_empty
+returns-else-is_empty c = pick_some _ _ (search (rules, tests))

@@ -5,5 +5,5 @@ use Rattle.likely.proofs.parts.known.Goals as goal
 pub returns-then-same : goal.returns-then-same
 returns-then-same c = known-gone _ _ c.same.ensures c.if-same.true
 
-pub returns : goal.returns
-returns c = known_kept _ _ c.same.ensures c.if-same.false
+pub returns-else-same : goal.returns-else-same
+returns-else-same c = known_kept _ _ c.same.ensures c.if-same.false

@@ -5,5 +5,5 @@ use Rattle.likely.proofs.parts.language_of.Goals as goal
 pub returns-then-same : goal.returns-then-same
 returns-then-same c = language-other _ _ c.same.ensures c.if-same.true
 
-pub returns : goal.returns
-returns c = language-kept _ _ c.same.ensures c.if-same.false
+pub returns-else-same : goal.returns-else-same
+returns-else-same c = language-kept _ _ c.same.ensures c.if-same.false

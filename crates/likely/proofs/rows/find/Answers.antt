@@ -1,14 +1,15 @@
 -- `likely::rows::find` meets its contract. Assumes nothing.
-use mathlib.Core.Path.{sym, ◌∙◌}
-use borrow.Author.Tests.{leb-true}
-use Rattle.likely.proofs.Lookups.{no_room}
+use mathlib.Core.Path.{refl}
+use Rattle.likely.specs.Parts.{joined_parts}
+use Rattle.likely.proofs.Lookups.{blank, put_three, value-by}
 use Rattle.likely.proofs.rows.find.Goals as goal
 
-pub find_key-requires : goal.find_key-requires
-find_key-requires c = leb-true _ _ (sym c.has_room.ensures ∙ c.if-has_room.true)
-
-pub returns-then-has_room : goal.returns-then-has_room
-returns-then-has_room c = record { result_value = λ q. c.find_key.ensures.result_value q.indexed; found_after = λ q. c.find_key.ensures.found_after q.indexed }
-
 pub returns : goal.returns
-returns c = let s = no_room _ _ _ c.has_room.ensures c.if-has_room.false in record { result_value = s.0; found_after = s.1 }
+unfolding joined_parts
+returns c = λ room.
+    let p₃ = c.put-c in
+    let p₂ = c.put-b in
+    let p₁ = c.put-a in
+    let a = c.args.parts.now in
+    let k = put_three blank _ _ _ a.language.now a.script.now a.region.now _ _ _ p₁.ensures.1 p₁.ensures.0 p₂.ensures.1 p₂.ensures.0 p₃.ensures.1 p₃.ensures.0 room refl in
+    value-by _ _ _ _ c.lookup.ensures k

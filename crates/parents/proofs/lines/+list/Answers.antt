@@ -1,28 +1,38 @@
 -- `parents::lines::list` meets its contract. Assumes nothing.
 use mathlib.Core.Path.{refl}
-use Rattle.parents.proofs.Writing.{bounded-one, bounded-more, chain-none, chain-und, chain_more, chain-some, rest-lists, lists-more, lists-as}
+use Rattle.parents.proofs.Writing.{bounded-one, bounded_none, bounded-more, bounded-as, front_fits, chain-none, chain-und, chain_more, chain-some, rest-lists, lists-more, lists-as}
 use Rattle.parents.proofs.lines.+list.Goals as goal
+use Rattle.parents.proofs.lines.+list.Goals.{then-allowed-eq0-via-then-allowed-eq0, then-allowed-eq0-via-else-allowed-eq0+then-same}
 
 pub returns-then-allowed-eq0 : goal.returns-then-allowed-eq0
 returns-then-allowed-eq0 t c =
     let a = c.args in
-    let l = c.last_line in
-    let e = chain-none a.parents.now a.allowed a.variants a.id.now c.if-allowed-eq0.true in
-    (bounded-one _ _ _ _ _ _ l.ensures.0 l.ensures.1, λ s. lists-as e (record { listed = l.ensures.0; written = l.ensures.1 }))
+    let l = c.last_line in (
+      bounded-one _ _ _ _ _ _ l.ensures.0 l.ensures.1,
+      λ s. elim c.then-allowed-eq0.branch [
+        | then-allowed-eq0-via-then-allowed-eq0 w ↦ lists-as (chain-none a.parents.now a.allowed a.variants a.id.now w.if-allowed-eq0.true) (record { listed = l.ensures.0; written = l.ensures.1 })
+        | then-allowed-eq0-via-else-allowed-eq0+then-same w ↦
+            lists-as (chain-und a.parents.now a.allowed a.variants a.id.now a.root.now c.requires.2 w.same.ensures w.if-same.true) (record { listed = l.ensures.0; written = l.ensures.1 })
+      ],
+    )
 
-pub returns-then-same : goal.returns-then-same
-returns-then-same t c =
+pub returns-in_default : goal.returns-in_default
+returns-in_default t c =
     let a = c.args in
-    let l = c.last_line-then-same in
-    let e = chain-und a.parents.now a.allowed a.variants a.id.now a.root.now c.requires.2 c.same.ensures c.if-same.true in
-    (bounded-one _ _ _ _ _ _ l.ensures.0 l.ensures.1, λ s. lists-as e (record { listed = l.ensures.0; written = l.ensures.1 }))
+    let l = c.list in
+    let e = chain_more a.parents.now a.allowed a.variants a.id.now a.root.now c.requires.2 c.same.ensures c.if-same.false c.if-allowed-eq0.false in (
+      bounded_none _ _ _ a.id.now _ _ _ (bounded-as c.in_default.is l.ensures.0),
+      λ s. lists-as e (lists-more _ _ _ _ _ a.id.now _ _ refl (chain-some _ _ _ _) (rest-lists a.parents.now _ _ _ _ _ (l.ensures.1 s) c.saturating_sub-fewer.ensures (c.parent_of-parent.ensures.1 s) c.in_default.is) refl),
+    )
+
+pub put_line-requires : goal.put_line-requires
+put_line-requires t c = front_fits _ _ _ c.args.id.now _ _ _ _ refl (bounded-as c.in-Some.is c.list.ensures.0)
 
 pub returns : goal.returns
 returns t c =
     let a = c.args in
-    let m = c.add_line in
-    let l = c.list-rest in
+    let l = c.list in
     let e = chain_more a.parents.now a.allowed a.variants a.id.now a.root.now c.requires.2 c.same.ensures c.if-same.false c.if-allowed-eq0.false in (
-      bounded-more _ _ _ a.id.now _ _ _ _ _ _ c.if-allowed-eq0.false refl l.ensures.0 m.ensures.0 m.ensures.1,
-      λ s. lists-as e (lists-more _ _ _ _ _ a.id.now _ _ _ refl (chain-some _ _ _ _) (rest-lists a.parents.now _ _ _ _ _ (l.ensures.1 s) c.fewer.ensures (c.parent_of-p.ensures.1 s)) m.ensures.0 m.ensures.1),
+      bounded-more _ _ _ a.id.now _ _ _ _ _ c.if-allowed-eq0.false refl (bounded-as c.in-Some.is l.ensures.0) c.put_line.ensures,
+      λ s. lists-as e (lists-more _ _ _ _ _ a.id.now _ _ refl (chain-some _ _ _ _) (rest-lists a.parents.now _ _ _ _ _ (l.ensures.1 s) c.saturating_sub-fewer.ensures (c.parent_of-parent.ensures.1 s) c.in-Some.is) c.put_line.ensures),
     )

@@ -1,32 +1,18 @@
 -- `parents::walk::key_reaches_root` meets its contract. Assumes nothing.
 use mathlib.Core.Path.{sym, ◌∙◌}
 use native.Mathlib.Omega.{arith}
-use Rattle.parents.proofs.Walks.{reach-root, reach-und, reach-next}
+use Rattle.parents.proofs.Walks.{reach-root, reach-und, reach-next, value-ok-of}
 use Rattle.parents.proofs.walk.key_reaches_root.Goals as goal
 
 pub returns-then-same : goal.returns-then-same
-returns-then-same c =
-    let w = c.requires.2 in
-    let t = w.tab in
-    let h = w.high in
-    reach-root _ _ _ w.low (omega arith) w.key 8 (sym c.same.ensures ∙ c.if-same.true)
-
-pub returns-then-next : goal.returns-then-next
-returns-then-next c =
-    let w = c.requires.2 in
-    let t = w.tab in
-    let h = w.high in
-    reach-und _ _ _ w.low (omega arith) w.key 8 (λ e. omega arith) (sym c.same.ensures ∙ c.if-same.false) _ c.own_parent-next.ensures c.if-next.true
+returns-then-same c = reach-root _ c.requires.1.key _ 8 (sym c.same.ensures ∙ c.if-same.true)
 
 pub reaches_root-requires : goal.reaches_root-requires
-reaches_root-requires c =
-    let s = c.requires in
-    let d = c.own_parent-next.ensures in
-    (s.0, s.1, d.low, d.high, d.value c.if-next.false)
+reaches_root-requires c = (c.requires.0, value-ok-of _ _ _ c.in-Some.ensures)
 
-pub returns : goal.returns
-returns c =
-    let w = c.requires.2 in
-    let t = w.tab in
-    let h = w.high in
-    c.reaches_root.ensures ∙ sym (reach-next _ _ _ w.low (omega arith) w.key 8 (λ e. omega arith) (sym c.same.ensures ∙ c.if-same.false) _ c.own_parent-next.ensures c.if-next.false)
+pub returns-in-Some : goal.returns-in-Some
+returns-in-Some c =
+    c.reaches_root.ensures ∙ sym (reach-next _ c.requires.1.key _ 8 (omega arith) (sym c.same.ensures ∙ c.if-same.false) _ c.in-Some.ensures)
+
+pub returns-in-None : goal.returns-in-None
+returns-in-None c = reach-und _ c.requires.1.key _ 8 (omega arith) (sym c.same.ensures ∙ c.if-same.false) c.in-None.ensures

@@ -6,11 +6,5 @@ use Rattle.reader.proofs.marks.add.Goals as goal
 pub marked-requires : goal.marked-requires
 marked-requires c = let h = places.place_in c.args.singleton in let e = c.place-p.ensures in omega arith
 
-pub returns-then-marked : goal.returns-then-marked
-returns-then-marked c = places.mark-repeat _ _ _ _ c.place-p.ensures c.marked.ensures c.if-marked.true
-
 pub mark-requires : goal.mark-requires
 mark-requires c = let h = places.place_in c.args.singleton in let e = c.place-p.ensures in omega arith
-
-pub returns : goal.returns
-returns c = places.mark-new _ _ _ _ _ c.place-p.ensures c.marked.ensures c.if-marked.false c.mark.ensures

@@ -32,9 +32,6 @@ offset_bounds-spans-n c = let l = c.loop-n.invariant in let f = l.few in omega a
 pub bounds-spans-n : goal.bounds-spans-n
 bounds-spans-n c = let l = c.loop-n.invariant in let f = l.few in omega arith
 
-pub overflow_add-n : goal.overflow_add-n
-overflow_add-n c = let l = c.loop-n.invariant in let f = l.few in omega arith
-
 pub loop-n-preserved : goal.loop-n-preserved
 loop-n-preserved c =
     spanned.listing-more _ _ _ _ _ _ c.loop-n.invariant c.loop-n-test.true _ _ c.subtag_end-end.ensures.0 c.new_span.ensures

@@ -9,5 +9,5 @@ returns-then-is_field_key c = choices.part-key _ _ _ c.is_field_key.ensures c.if
 pub returns-then-accepts : goal.returns-then-accepts
 returns-then-accepts c = choices.part-stage _ _ _ c.is_field_key.ensures c.if-is_field_key.false _ (choices.stage-taken Part _ _ _ c.kind_of-k.ensures _ c.accepts.ensures c.if-accepts.true _ c.stage_by.ensures)
 
-pub returns : goal.returns
-returns c = choices.part-stage _ _ _ c.is_field_key.ensures c.if-is_field_key.false _ (choices.stage-left Part _ _ _ c.kind_of-k.ensures _ c.accepts.ensures c.if-accepts.false)
+pub returns-else-accepts : goal.returns-else-accepts
+returns-else-accepts c = choices.part-stage _ _ _ c.is_field_key.ensures c.if-is_field_key.false _ (choices.stage-left Part _ _ _ c.kind_of-k.ensures _ c.accepts.ensures c.if-accepts.false)

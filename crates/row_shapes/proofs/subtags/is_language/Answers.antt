@@ -1,18 +1,29 @@
 -- `row_shapes::subtags::is_language` meets its contract. Assumes nothing.
-use mathlib.Core.Path.{◌∙◌}
-use Rattle.row_shapes.specs.Shapes.{allowed}
-use Rattle.row_shapes.proofs.Tags as tags
+use native.Mathlib.Omega.{arith}
+use mathlib.Core.Path.{◌≡◌, ◌∙◌}
+use Prim.Native.Nat.{◌≤◌}
+use lib.ListN.{length}
+use Rattle.std.proofs.Common.{rules, tests}
+use Rattle.std.proofs.lemmas.Iterator.{YieldsList-from_slice}
+use Rattle.std.proofs.lemmas.Iterator.Search.{all_from_yields_List}
+use Rattle.standard.specs.Grammar.{small}
+use Rattle.row_shapes.proofs.Tags.{every-all, language-letters, language-other}
 use Rattle.row_shapes.proofs.subtags.is_language.Goals as goal
+use Rattle.row_shapes.proofs.subtags.is_language.Goals.{then-this-lt4, else-this-lt4+else-this-lt5+then-this-lt9}
 
-pub returns-then-n-lt2 : goal.returns-then-n-lt2
-returns-then-n-lt2 c = tags.language-short _ c.if-n-lt2.true
+pub returns-in-2 : goal.returns-in-2
+returns-in-2 c =
+    let n : (2 ≤ length c.args.s.now) × (length c.args.s.now ≡ 4 → ⊥) × (length c.args.s.now ≤ 8) = elim c.in-2-1.branch [
+      | then-this-lt4 w ↦ (omega arith, (λ q. omega arith), omega arith)
+      | else-this-lt4+else-this-lt5+then-this-lt9 w ↦ (omega arith, (λ q. omega arith), omega arith)
+    ] in
+    all_from_yields_List small _ _ c.all.result c.all.ensures.ran (YieldsList-from_slice c.args.s.now cc) (λ x b q k. search (rules, tests)) ∙ every-all small _ ∙ language-letters _ n.0 n.1 n.2
 
-pub returns-then-n-eq4 : goal.returns-then-n-eq4
-returns-then-n-eq4 c = tags.language-four _ c.if-n-eq4.true
+pub returns-in_default : goal.returns-in_default
+returns-in_default c = language-other _ (λ a b d. omega arith)
 
-pub returns-then-n-gt8 : goal.returns-then-n-gt8
-returns-then-n-gt8 c = tags.language-long _ c.if-n-gt8.true
+pub returns-in_default-2 : goal.returns-in_default-2
+returns-in_default-2 c = language-other _ (λ a b d. omega arith)
 
-pub returns : goal.returns
-unfolding allowed
-returns c = c.every.ensures ∙ tags.language-letters _ c.if-n-lt2.false c.if-n-eq4.false c.if-n-gt8.false
+pub returns-in_default-3 : goal.returns-in_default-3
+returns-in_default-3 c = language-other _ (λ a b d. omega arith)

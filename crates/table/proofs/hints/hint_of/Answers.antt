@@ -11,5 +11,5 @@ returns-then-old-eq0 c = hint-new _ _ c.if-place-gt32766.false c.if-old-eq0.true
 pub returns-then-old-lt32768 : goal.returns-then-old-lt32768
 returns-then-old-lt32768 c = hint-second _ _ c.if-place-gt32766.false c.if-old-eq0.false c.if-old-lt32768.true
 
-pub returns : goal.returns
-returns c = hint-more _ _ c.if-place-gt32766.false c.if-old-lt32768.false
+pub returns-else-old-lt32768 : goal.returns-else-old-lt32768
+returns-else-old-lt32768 c = hint-more _ _ c.if-place-gt32766.false c.if-old-lt32768.false

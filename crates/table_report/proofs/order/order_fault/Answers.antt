@@ -15,7 +15,7 @@ pub slice_bounds-same_key-end-2 : goal.slice_bounds-same_key-end-2
 slice_bounds-same_key-end-2 c = let a = c.args in let r = take (length a.x.now - a.place) (drop a.place a.x.now) in sym (length-take-le _ _ (omega (arith, c.end_of-end.ensures, end-le 10 r 0)))
 
 pub returns-then-same_key : goal.returns-then-same_key
-returns-then-same_key c = sym (judged.order_is _ _ _ _ _ _ _ c.before-e.ensures c.line_start-s.ensures.0 c.end_of-end.ensures c.same_key.ensures ∙ ap (λ (b : Bool). pick b SameKey Order) c.if-same_key.true)
+returns-then-same_key c = sym (judged.order_is _ _ _ _ _ _ _ c.saturating_sub-e.ensures c.line_start-s.ensures.0 c.end_of-end.ensures c.same_key.ensures ∙ ap (λ (b : Bool). pick b SameKey Order) c.if-same_key.true)
 
-pub returns : goal.returns
-returns c = sym (judged.order_is _ _ _ _ _ _ _ c.before-e.ensures c.line_start-s.ensures.0 c.end_of-end.ensures c.same_key.ensures ∙ ap (λ (b : Bool). pick b SameKey Order) c.if-same_key.false)
+pub returns-else-same_key : goal.returns-else-same_key
+returns-else-same_key c = sym (judged.order_is _ _ _ _ _ _ _ c.saturating_sub-e.ensures c.line_start-s.ensures.0 c.end_of-end.ensures c.same_key.ensures ∙ ap (λ (b : Bool). pick b SameKey Order) c.if-same_key.false)

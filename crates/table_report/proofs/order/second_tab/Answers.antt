@@ -2,8 +2,8 @@
 use Rattle.table_report.proofs.Counts as counts
 use Rattle.table_report.proofs.order.second_tab.Goals as goal
 
-pub returns-then-line-a : goal.returns-then-line-a
-returns-then-line-a c = counts.second_none _ _ c.end_of-a.ensures c.if-line-a.true
+pub returns-else-a-line : goal.returns-else-a-line
+returns-else-a-line c = counts.second_none _ _ c.end_of-a.ensures c.if-a-line.false
 
-pub returns : goal.returns
-returns c = counts.second-some _ _ c.end_of-a.ensures c.if-line-a.false _ c.end_of.ensures
+pub returns-then-a-line : goal.returns-then-a-line
+returns-then-a-line c = counts.second-some _ _ c.end_of-a.ensures c.if-a-line.true _ c.end_of.ensures

@@ -1,17 +1,11 @@
 -- `table_report::texts::all_fit` meets its contract. Assumes nothing.
-use mathlib.Core.Path.{refl, sym, ◌∙◌}
-use Prim.Native.Nat.{◌-◌}
-use Rattle.row_shapes.proofs.Tags.{every-end, every-not, every-next}
+use mathlib.Core.Path.{◌∙◌}
+use Rattle.std.proofs.Common.{rules, tests}
+use Rattle.std.proofs.lemmas.Iterator.{YieldsList-from_slice}
+use Rattle.std.proofs.lemmas.Iterator.Search.{all_from_yields_List}
+use Rattle.row_shapes.proofs.Tags.{every-all}
+use Rattle.table_report.specs.Faults.{fits}
 use Rattle.table_report.proofs.texts.all_fit.Goals as goal
 
-pub loop-i-init : goal.loop-i-init
-loop-i-init c = refl
-
-pub returns-then-not-fits_row : goal.returns-then-not-fits_row
-returns-then-not-fits_row c = sym (c.loop-i.invariant ∙ every-not _ _ _ c.loop-i-test.true (sym c.fits_row.ensures ∙ c.if-not-fits_row.true))
-
-pub loop-i-preserved : goal.loop-i-preserved
-loop-i-preserved c = c.loop-i.invariant ∙ every-next _ _ _ c.loop-i-test.true (sym c.fits_row.ensures ∙ c.if-not-fits_row.false)
-
 pub returns : goal.returns
-returns c = sym (c.loop-i.invariant ∙ every-end _ _ _ c.loop-i-test.false)
+returns c = all_from_yields_List fits _ _ c.all.result c.all.ensures.ran (YieldsList-from_slice c.args.s.now cc) (λ x b q k. search (rules, tests)) ∙ every-all _ _

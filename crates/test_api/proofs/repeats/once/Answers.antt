@@ -1,4 +1,5 @@
 -- `test_api::repeats::once` meets its contract. Assumes nothing.
+use native.Mathlib.Omega.{arith}
 use mathlib.Core.Path.{sym, ◌∙◌}
 use Rattle.operations.proofs.CompleteChecked.{tested-both}
 use Rattle.operations.proofs.ChainChecked.{tested-chain}
@@ -8,42 +9,55 @@ use Rattle.test_api.proofs.repeats.once.Goals as goal
 pub canonicalise_tested-requires : goal.canonicalise_tested-requires
 canonicalise_tested-requires c =
     let a = c.args in
-    (sym (check-0 a.operation a.aliases.now a.other.now c.if-operation-eq0.true) ∙ c.requires.0, c.requires.1)
+    sym (check-0 a.operation a.aliases.rows.now a.other.now c.in-0.is) ∙ c.requires.0
 
-pub returns-then-operation-eq0 : goal.returns-then-operation-eq0
-returns-then-operation-eq0 c =
+pub returns-in-0 : goal.returns-in-0
+returns-in-0 c =
     let a = c.args in
-    once-0 a.operation a.aliases.now a.other.now a.id.now _ _ c.canonicalise_tested.result c.pack.result c.pack.ensures c.requires.0 c.if-operation-eq0.true c.canonicalise_tested.ensures
+    once-0 a.operation a.aliases.rows.now a.other.now a.id.now _ _ c.canonicalise_tested.result c.pack.result c.pack.ensures c.requires.0 c.in-0.is c.canonicalise_tested.ensures
 
-pub form_hinted-a-requires : goal.form_hinted-a-requires
-form_hinted-a-requires c =
+pub indexed-requires : goal.indexed-requires
+indexed-requires c =
     let a = c.args in
-    (tested-both _ _ (sym (check-1 a.operation a.aliases.now a.other.now c.if-operation-eq0.false c.if-operation-eq1.true) ∙ c.requires.0), c.requires.1, c.requires.2)
+    let both = tested-both _ _ (sym (check-1 a.operation a.aliases.rows.now a.other.now (λ e. omega arith) c.in-1.is) ∙ c.requires.0) in
+    record { sorted = both.likely; hinted = c.requires.1 }
 
-pub returns-then-operation-eq1 : goal.returns-then-operation-eq1
-returns-then-operation-eq1 c =
+pub tested-tables-requires : goal.tested-tables-requires
+tested-tables-requires c =
     let a = c.args in
-    let f = c.form_hinted-a in
-    once-1 a.operation a.aliases.now a.other.now a.id.now _ _ c.answer.result c.pack-then-operation-eq1.result c.pack-then-operation-eq1.ensures c.requires.0 f.result c.if-operation-eq0.false c.if-operation-eq1.true c.answer.ensures f.ensures
+    rw c.indexed.ensures.0 (tested-both _ _ (sym (check-1 a.operation a.aliases.rows.now a.other.now (λ e. omega arith) c.in-1.is) ∙ c.requires.0))
 
-pub form_hinted-a-requires-then-operation-eq2 : goal.form_hinted-a-requires-then-operation-eq2
-form_hinted-a-requires-then-operation-eq2 c =
+pub returns-in-1 : goal.returns-in-1
+returns-in-1 c =
     let a = c.args in
-    (tested-both _ _ (sym (check-2 a.operation a.aliases.now a.other.now c.if-operation-eq0.false c.if-operation-eq1.false c.if-operation-eq2.true) ∙ c.requires.0), c.requires.1, c.requires.2)
+    let t = c.tested-tables.ensures in
+    let f = rw (t.0, t.1, c.indexed.ensures.0) at c.form_tested.ensures in
+    once-1 a.operation a.aliases.rows.now a.other.now a.id.now _ _ c.form_tested.result c.pack-in-1.result c.pack-in-1.ensures c.requires.0 (λ e. omega arith) c.in-1.is f
 
-pub returns-then-operation-eq2 : goal.returns-then-operation-eq2
-returns-then-operation-eq2 c =
+pub indexed-requires-in-2 : goal.indexed-requires-in-2
+indexed-requires-in-2 c =
     let a = c.args in
-    let f = c.form_hinted-a-then-operation-eq2 in
-    once-2 a.operation a.aliases.now a.other.now a.id.now _ _ c.answer-then-operation-eq2.result c.pack-then-operation-eq2.result c.pack-then-operation-eq2.ensures c.requires.0 f.result c.if-operation-eq0.false c.if-operation-eq1.false c.if-operation-eq2.true c.answer-then-operation-eq2.ensures f.ensures
+    let both = tested-both _ _ (sym (check-2 a.operation a.aliases.rows.now a.other.now (λ e. omega arith) (λ e. omega arith) c.in-2.is) ∙ c.requires.0) in
+    record { sorted = both.likely; hinted = c.requires.1 }
+
+pub tested-tables-requires-in-2 : goal.tested-tables-requires-in-2
+tested-tables-requires-in-2 c =
+    let a = c.args in
+    rw c.indexed-in-2.ensures.0 (tested-both _ _ (sym (check-2 a.operation a.aliases.rows.now a.other.now (λ e. omega arith) (λ e. omega arith) c.in-2.is) ∙ c.requires.0))
+
+pub returns-in-2 : goal.returns-in-2
+returns-in-2 c =
+    let a = c.args in
+    let t = c.tested-tables-in-2.ensures in
+    let f = rw (t.0, t.1, c.indexed-in-2.ensures.0) at c.form_tested-in-2.ensures in
+    once-2 a.operation a.aliases.rows.now a.other.now a.id.now _ _ c.form_tested-in-2.result c.pack-in-2.result c.pack-in-2.ensures c.requires.0 (λ e. omega arith) (λ e. omega arith) c.in-2.is f
 
 pub chain_tested-requires : goal.chain_tested-requires
 chain_tested-requires c =
     let a = c.args in
-    tested-chain _ _ (sym (check-3 a.operation a.aliases.now a.other.now c.if-operation-eq0.false c.if-operation-eq1.false c.if-operation-eq2.false) ∙ c.requires.0)
+    tested-chain _ _ (sym (check-3 a.operation a.aliases.rows.now a.other.now (λ e. omega arith) (λ e. omega arith) (λ e. omega arith)) ∙ c.requires.0)
 
-pub returns : goal.returns
-returns c =
+pub returns-in_default : goal.returns-in_default
+returns-in_default c =
     let a = c.args in
-    let f = c.chain_tested in
-    once-3 a.operation a.aliases.now a.other.now a.id.now _ _ c.answer-2.result c.pack-2.result c.pack-2.ensures c.requires.0 f.result c.if-operation-eq0.false c.if-operation-eq1.false c.if-operation-eq2.false c.answer-2.ensures f.ensures
+    once-3 a.operation a.aliases.rows.now a.other.now a.id.now _ _ c.chain_tested.result c.pack-in_default.result c.pack-in_default.ensures c.requires.0 (λ e. omega arith) (λ e. omega arith) (λ e. omega arith) c.chain_tested.ensures

@@ -1,14 +1,21 @@
 -- `test_api::repeats::probe_repeat` meets its contract. Assumes nothing.
 use Rattle.operations.proofs.Delivers.{table-good}
 use Rattle.table.proofs.Hinting.{hinted-empty}
-use Rattle.test_api.proofs.Repeated.{refused-for}
+use Rattle.test_api.proofs.Repeated.{refused-for, sorted-for}
 use Rattle.test_api.proofs.repeats.probe_repeat.Goals as goal
 
-pub returns-in-Bad : goal.returns-in-Bad
-returns-in-Bad c =
-    let k = c.check_for-v in
+pub returns-in-Err : goal.returns-in-Err
+returns-in-Err c =
     let a = c.args in
-    refused-for a.operation a.aliases.now a.other.now a.id.now _ k.result c.refuse.result c.pack.result c.in-Bad.is c.pack.ensures c.refuse.ensures k.ensures
+    refused-for a.operation a.aliases.now a.other.now a.id.now _ c.check_for.result _ c.pack.result c.in-Err.is c.pack.ensures c.check_for.ensures
+
+pub indexed-requires : goal.indexed-requires
+indexed-requires c =
+    let a = c.args in
+    record { sorted = sorted-for a.operation a.aliases.now a.other.now (table-good c.check_for.result _ _ c.check_for.ensures c.in_default.is); hinted = hinted-empty _ }
 
 pub repeated-requires : goal.repeated-requires
-repeated-requires c = (table-good c.check_for-v.result _ c.check_for-v.ensures c.in_default.is, hinted-empty _, hinted-empty _)
+repeated-requires c = (rw c.indexed.ensures.0 (table-good c.check_for.result _ _ c.check_for.ensures c.in_default.is), hinted-empty _)
+
+pub returns : goal.returns
+returns c = rw c.indexed.ensures.0 at c.repeated.ensures

@@ -1,8 +1,0 @@
--- `program_io::system::write` meets its contract. Assumes nothing.
-use Rattle.program_io.proofs.system.write.Given as goal
-
-abbrev pub invariant-loop-left : goal.invariant-loop-left
-invariant-loop-left g l = Unit {0}
-
-abbrev pub decreases-loop-left : goal.decreases-loop-left
-decreases-loop-left g l = l.left

@@ -1,8 +1,0 @@
--- `reader::spans::no_variants` meets its contract. Assumes nothing.
-use mathlib.Core.Path.{refl}
-use Rattle.reader.specs.Spans.{span_is, in_room}
-use Rattle.reader.proofs.spans.no_variants.Goals as goal
-
-pub returns : goal.returns
-unfolding span_is in_room
-returns c = refl

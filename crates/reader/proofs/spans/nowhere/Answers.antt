@@ -1,8 +1,0 @@
--- `reader::spans::nowhere` meets its contract. Assumes nothing.
-use mathlib.Core.Path.{refl}
-use Rattle.reader.specs.Spans.{span_is}
-use Rattle.reader.proofs.spans.nowhere.Goals as goal
-
-pub returns : goal.returns
-unfolding span_is
-returns c = refl
