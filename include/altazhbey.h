@@ -6,7 +6,7 @@
  * Null pointers: where a length is 0 the pointer is not read, and may be null.
  * Threads: there is no state. Any number of threads may call at once, each with an out of its own; identifiers and
  * tables may be shared, as long as nobody writes to them.
- * Memory: nothing is kept and nothing allocated; of the C library memcpy, memmove and memset alone are called.
+ * Memory: nothing is kept and nothing allocated; of the C library memcpy and memset alone are called.
  * Stack: a call takes less than 72 KiB, whatever it is lent; this is measured, not proved. A thread has data of its own
  * there, too: give it 96 KiB.
  *

@@ -7,7 +7,7 @@ ghost use Rattle.standard.specs.Delivery.{given};
 ghost use Rattle.standard.specs.Make.{canonicalise_made, maximise_made, minimise_made, list_made, check_made};
 ghost use Rattle.standard.specs.Table.{located};
 ghost use Rattle.standard.specs.Report.{report};
-ghost use Rattle.table.specs.Lines.{value_is, value_if};
+ghost use Rattle.table.specs.Lines.{value_is, value_if, value_of};
 ghost use Rattle.reader.specs.Words.{report_is};
 ghost use Rattle.operations.specs.Answer.{given_is, checked_is};
 ghost use Rattle.operations.specs.Both.{whole_made};
@@ -23,7 +23,7 @@ pub use table_check::Fault;
 use table_check::{check_aliases, check_likely, check_parents};
 
 // Reads an identifier: language, script and region in canonical case before aliases, how many variants and extensions it
-// has; or why reading refuses it, whose number (1 to 7, 15, 16) and place Refusal::Unread gives.
+// has; or why reading refuses it, by number (1 to 7, 15, 16) and place.
 pub fn read(id: &[u8]) -> Result<Report, Unread>
     ensures { report_is result ≡ report id.now }
 {
@@ -35,6 +35,13 @@ pub fn lookup<'a>(t: &'a [u8], key: &[u8]) -> Option<&'a [u8]>
     ensures { let t = t.entry.now in value_is result ≡ value_if t (located t key.now) }
 {
     table::lookup(t, key)
+}
+
+// The same value, or an empty part at the front of the table where no row has the key.
+pub fn lookup_part<'a>(t: &'a [u8], key: &[u8]) -> &'a [u8]
+    ensures { result.now ≡ value_of t.now (located t.now key.now) }
+{
+    lookup(t, key).unwrap_or(&t[..0])
 }
 
 // Checks the three tables, and gives the first fault (11 to 14) with its place and its table.

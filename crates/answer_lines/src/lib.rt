@@ -111,11 +111,8 @@ pub fn unread(number: u8, output: Output) -> Run
     ensures input { (piece : Bytes) → Going [] result.input piece }
     ensures output { result.output ≡ output }
 {
-    Run {
-        number,
-        input: input::begin(),
-        output,
-    }
+    let run = replied(input::begin(), output);
+    Run { number, ..run }
 }
 
 // A run over tables that do not pass the check: their line is printed, and nothing read.

@@ -20,7 +20,7 @@ pub(crate) fn key_of(id: &[u8], tables: TestedTables, out: &mut [u8]) -> Option<
     let Ok(form) = canonical_form(id, tables.aliases, &mut buf) else {
         return None;
     };
-    let Ok(len) = from_form(true, &buf, form, tables.likely, out) else {
+    let Ok(len) = from_form(true, &buf, form, tables.likely.hinted(), out) else {
         return None;
     };
     let rest = form.len - form.region;

@@ -12,9 +12,11 @@ pub fn put(src: &[u8], out: &mut [u8], at: usize) -> usize
     requires { at + length src.now ≤ length out.old }
     ensures { Writes out.old at src.now result out.new }
 {
-    let end = at + src.len();
-    out[at..end].copy_from_slice(src);
-    end
+    // by the byte, and not by `copy_from_slice`, which calls memmove: a host in C need not have that
+    for (i, b) in src.iter().enumerate() {
+        out[at + i] = *b;
+    }
+    at + src.len()
 }
 
 // Are the two byte strings equal?

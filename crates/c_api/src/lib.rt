@@ -14,35 +14,41 @@ use operations::delivery::{Answer, Done, Refusal};
 pub fn altazhbey_canonicalise(id: &[u8], aliases: &[u8], out: &mut [u8]) -> u64
     ensures { unpacked result out.new ≡ given (canonicalise_made aliases.now id.now) out.old }
 {
-    pack(altazhbey::canonicalise(id, aliases, out))
+    packed_answer(altazhbey::canonicalise(id, aliases, out))
 }
 
 // Maximises an identifier over tables of aliases and of likely rows.
 pub fn altazhbey_maximise(id: &[u8], aliases: &[u8], likely: &[u8], out: &mut [u8]) -> u64
     ensures { unpacked result out.new ≡ given (maximise_made aliases.now likely.now id.now) out.old }
 {
-    pack(altazhbey::maximise(id, aliases, likely, out))
+    packed_answer(altazhbey::maximise(id, aliases, likely, out))
 }
 
 // Minimises an identifier over tables of aliases and of likely rows.
 pub fn altazhbey_minimise(id: &[u8], aliases: &[u8], likely: &[u8], out: &mut [u8]) -> u64
     ensures { unpacked result out.new ≡ given (minimise_made aliases.now likely.now id.now) out.old }
 {
-    pack(altazhbey::minimise(id, aliases, likely, out))
+    packed_answer(altazhbey::minimise(id, aliases, likely, out))
 }
 
 // Lists the chain of an identifier over tables of aliases and of parents.
 pub fn altazhbey_chain(id: &[u8], aliases: &[u8], parents: &[u8], out: &mut [u8]) -> u64
     ensures { unpacked result out.new ≡ given (list_made aliases.now parents.now id.now) out.old }
 {
-    pack(altazhbey::chain(id, aliases, parents, out))
+    packed_answer(altazhbey::chain(id, aliases, parents, out))
 }
 
 // What an operation gave back, as one number. Every answer of the four fits, so that nothing is cut off.
-pub fn pack(made: Result<Done, Refusal>) -> u64
+pub fn packed_answer(made: Result<Done, Refusal>) -> u64
     ensures { result ≡ packed (answer_by made) }
 {
-    let a = Answer::from(made);
+    pack(Answer::from(made))
+}
+
+// An answer as one number.
+pub fn pack(a: Answer) -> u64
+    ensures { result ≡ packed a }
+{
     let number = u64::from(a.number);
     let table = u64::from(a.table);
     let place = (a.place % 65536) as u64;

@@ -13,7 +13,8 @@ ghost use Rattle.tsv.specs.Fields.{decimal, field};
 ghost use Rattle.inspect_rows.specs.Rows.{told_is, dashed, three_text, fields_text, key_text, meant_text, row_of};
 
 use crate::rows::ReadRows;
-use lines::rows::{Written, write_rows};
+pub use lines::rows::Written;
+use lines::rows::write_rows;
 use meaning::put_meaning;
 use reader::report::{Report, Word};
 use reader::{Refusal, fault_of};

@@ -11,7 +11,8 @@ ghost use Rattle.tsv.specs.Fields.{field, asked_of};
 ghost use Rattle.key_rows.specs.Keys.{answer_text, kept_text, keys_given, keyed_is};
 
 use crate::rows::KeyRows;
-use lines::rows::{Written, write_rows};
+pub use lines::rows::Written;
+use lines::rows::write_rows;
 use operations::tables::tested;
 use table::hints::{fill_hints, indexed, many};
 use table_check::{Fault, check_likely};

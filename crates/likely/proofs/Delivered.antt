@@ -14,9 +14,9 @@ use Rattle.std.specs.Option.{is_some}
 use Rattle.standard.specs.Delivery.{Bytes, Made, Given, given}
 use Rattle.byte_string.proofs.Stores.{sets-append}
 use Rattle.standard.specs.Tag.{text}
-use Rattle.likely.specs.Parts.{Parts, parts3, joined_parts, known_part, known_parts, fits_parts, fill_parts, minimal_parts, HasRoom}
+use Rattle.likely.specs.Parts.{Parts, parts3, joined_parts, known_part, known_parts, fits_parts, fill_parts, minimal_parts, HasRoom, Ready}
 use Rattle.likely.specs.declared.forms.NoForm.TheVariants.{NoRow, Overlong, Short}
-use Rattle.likely.specs.Forms.{given_by, short_length, short_form, bytes_of, made_form, kept_if, made_of, made_filled, made_parts, RoomFor}
+use Rattle.likely.specs.Forms.{given_by, short_length, short_form, bytes_of, made_form, kept_if, made_of, made_filled, made_parts, RoomFor, ReadyFor}
 
 -- the length of a form, by its parts
 pub form-length : (l s r x : Bytes) → length (bytes_of (parts3 l s r) x) ≡ length l + length s + length r + length x
@@ -128,6 +128,13 @@ room-known L p p' k q = subst HasRoom (sym k) q.first
 
 pub room-again : (L : Bytes) (p p' q : Parts) → p' ≡ known_parts p → RoomFor L p → (HasRoom p' → some q ≡ fill_parts L p') → HasRoom q
 room-again L p p' q k r f = r.again q (ap (fill_parts L) (sym k) ∙ sym (f (room-known L p p' k r)))
+
+module _ (L hints : Bytes) (p p' : Parts) (k : p' ≡ known_parts p) (r : ReadyFor L hints p) where
+  pub ready-known : Ready L hints p'
+  ready-known = record { indexed = r.indexed; short = room-known L p p' k r.room }
+
+  pub ready-again : (q : Parts) → (Ready L hints p' → some q ≡ fill_parts L p') → Ready L hints q
+  ready-again q f = record { indexed = r.indexed; short = room-again L p p' q k r.room (λ s. f ready-known) }
 
 -- the length that was asked for, by whether there is one
 pub none-of : (o : Option ℕ) (m : ℕ) → o ≡ short_length m → is_some o ≡ false → None ≡ short_length m

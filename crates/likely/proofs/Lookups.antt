@@ -21,7 +21,7 @@ use Rattle.table.proofs.Lines.{lookup-located}
 use Rattle.byte_string.specs.Strings.{end_of}
 use Rattle.byte_string.proofs.Ends.{end-past, ends, end-le}
 use Rattle.byte_string.proofs.Stores.{sets-append}
-use Rattle.likely.specs.Parts.{Parts, joined_parts, dash_from, dash, cut_parts, over_parts, over_value, fill_parts, fits_value, fits_parts, minimal_parts, known_part, language_of, complete_parts, parts3, or_value, shorter_value, row_value}
+use Rattle.likely.specs.Parts.{Parts, Ready, joined_parts, dash_from, dash, cut_parts, over_parts, over_value, fill_parts, fits_value, fits_parts, minimal_parts, known_part, language_of, complete_parts, parts3, or_value, shorter_value, row_value}
 
 -- choices
 pub pick-none : (x y : Bytes) → length x ≡ 0 → y ≡ pick x y
@@ -85,6 +85,17 @@ value-by t k x o e q = e ∙ sym (lookup-located t x) ∙ ap (lookup (rows t)) q
 
 abbrev pub blank : Bytes
 blank = 0 ∷ 0 ∷ 0 ∷ 0 ∷ 0 ∷ 0 ∷ 0 ∷ 0 ∷ 0 ∷ 0 ∷ 0 ∷ 0 ∷ 0 ∷ 0 ∷ 0 ∷ 0 ∷ 0 ∷ 0 ∷ 0 ∷ 0 ∷ 0 ∷ 0 ∷ 0 ∷ 0 ∷ 0 ∷ 0 ∷ 0 ∷ 0 ∷ 0 ∷ 0 ∷ 0 ∷ 0 ∷ []
+
+-- what is ready for parts is ready for fewer of them
+module _ (L hints : Bytes) (p : Parts) (r : Ready L hints p) where
+  pub ready-alone : Ready L hints (parts3 p.language [] [])
+  ready-alone = record { indexed = r.indexed; short = omega (arith, r.short) }
+
+  pub ready-script : Ready L hints (parts3 p.language p.script [])
+  ready-script = record { indexed = r.indexed; short = omega (arith, r.short) }
+
+  pub ready-region : Ready L hints (parts3 p.language [] p.region)
+  ready-region = record { indexed = r.indexed; short = omega (arith, r.short) }
 
 -- the first that was found, or the next
 or-first : (o p : Option Bytes) (v : Bytes) → some v ≡ o → some v ≡ or_value o p

@@ -3,6 +3,7 @@
 use Rattle.std.specs.Prelude.{◌≡◌, Bool, cond, ◌++◌, ℕ, leb, length, Option, Some, None, Result, Ok, Err}
 use Rattle.std.proofs.Math.Option.{Option as Maybe, none, some}
 use Rattle.standard.specs.Delivery.{Bytes, Made, refusal, form, Given}
+use Rattle.table.specs.Hints.{Indexed}
 use Rattle.likely.specs.Parts.{Parts, joined_parts, known_parts, fill_parts, minimal_parts, HasRoom}
 use Rattle.likely.specs.declared.forms.NoForm.{NoForm}
 use Rattle.likely.specs.declared.forms.NoForm.TheVariants.{NoRow, Overlong, Short}
@@ -51,3 +52,8 @@ made_parts b L rest p = made_filled b L rest (fill_parts L (known_parts p))
 pub record RoomFor (L : Bytes) (p : Parts) : Type 0 where
   pub first : HasRoom (known_parts p)
   pub again : (q : Parts) → fill_parts L (known_parts p) ≡ some q → HasRoom q
+
+-- the same, and a table whose rows ascend, with its hints
+pub record ReadyFor (L hints : Bytes) (p : Parts) : Type 0 where
+  pub indexed : Indexed L hints
+  pub room : RoomFor L p

@@ -6,6 +6,7 @@ use Rattle.standard.specs.Tag.{Tag, same, present, pick, text}
 use Rattle.standard.specs.Identifier.{Three, und}
 use Rattle.standard.specs.Delivery.{Bytes}
 use Rattle.standard.specs.Table.{lookup, rows}
+use Rattle.table.specs.Hints.{Indexed}
 
 -- an optional subtag with its separator
 unfoldable pub led_part : Tag → Bytes
@@ -51,9 +52,15 @@ or_value (some v) o = some v
 abbrev pub parts_length : Parts → ℕ
 parts_length p = length p.language + length p.script + length p.region
 
--- parts that have room in a key: then a search finds what the standard's lookup finds
+-- parts that have room in a key
 abbrev pub HasRoom : Parts → Type 0
 HasRoom p = parts_length p ≤ 32
+
+-- A table whose rows ascend, with its hints, and parts that have room in a key: then a search finds what the standard's
+-- lookup finds.
+pub record Ready (L hints : Bytes) (p : Parts) : Type 0 where
+  pub indexed : Indexed L hints
+  pub short : HasRoom p
 
 -- where language-script-region has no row: the first of language-script, language-region, language that has one
 unfoldable pub shorter_value : Bytes → Parts → Option Bytes

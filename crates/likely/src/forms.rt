@@ -4,12 +4,12 @@ ghost use Rattle.std.proofs.lemmas.List.Edits.{sets};
 ghost use Rattle.standard.specs.Delivery.{given};
 ghost use Rattle.likely.specs.Parts.{parts_length};
 ghost use Rattle.likely.specs.Lent.{parts_is};
-ghost use Rattle.likely.specs.Forms.{given_by, short_length, bytes_of, made_form, made_parts, RoomFor};
+ghost use Rattle.likely.specs.Forms.{given_by, short_length, bytes_of, made_form, made_parts, ReadyFor};
 
 use crate::lsr::{completed, minimised};
 use crate::parts::{Parts, known};
 use byte_string::put;
-use table::hints::IndexedTable;
+use table::hints::HintedTable;
 
 // Why there is no form: no row of the likely table, over 255 bytes, or an output that is too short.
 #[derive(Clone, Copy, PartialEq, Eq)]
@@ -63,11 +63,11 @@ pub fn form_by_parts<'a>(
     shorten: bool,
     parts: Parts<'a>,
     rest: &[u8],
-    likely: IndexedTable<'a>,
+    likely: HintedTable<'a>,
     out: &mut [u8],
 ) -> Result<usize, NoForm>
-    ensures { let p = parts_is parts.entry in let likely = likely.entry.rows.now in
-        RoomFor likely p → given_by result out.exit.now ≡ given (made_parts shorten likely rest.entry.now p) out.entry.now }
+    ensures { let p = parts_is parts.entry in let hints = likely.entry.hints.now in let likely = likely.entry.rows.now in
+        ReadyFor likely hints p → given_by result out.exit.now ≡ given (made_parts shorten likely rest.entry.now p) out.entry.now }
 {
     let known = Parts {
         script: known(parts.script, b"-Zzzz"),

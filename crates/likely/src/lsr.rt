@@ -1,16 +1,17 @@
 // The maximised and the minimised three, by parts.
 ghost use Rattle.std.specs.Prelude.{◌≡◌};
-ghost use Rattle.likely.specs.Parts.{HasRoom, fill_parts, fits_parts, minimal_parts};
+ghost use Rattle.likely.specs.Parts.{Ready, fill_parts, fits_parts, minimal_parts};
 ghost use Rattle.likely.specs.Lent.{parts_is, filled_is};
 
 use crate::parts::{Parts, cut_value, first_of, is_complete, language_of};
 use crate::rows::find_row;
 use byte_string::same;
-use table::hints::IndexedTable;
+use table::hints::HintedTable;
 
 // The parts, completed by a row where something is missing, if there is one.
-pub(crate) fn completed<'a>(likely: &IndexedTable<'a>, parts: &Parts<'a>) -> Option<Parts<'a>>
-    ensures { let p = parts_is parts.entry.now in HasRoom p → filled_is result ≡ fill_parts likely.entry.now.rows.now p }
+pub(crate) fn completed<'a>(likely: &HintedTable<'a>, parts: &Parts<'a>) -> Option<Parts<'a>>
+    ensures { let p = parts_is parts.entry.now in let likely = likely.entry.now in
+        Ready likely.rows.now likely.hints.now p → filled_is result ≡ fill_parts likely.rows.now p }
 {
     if is_complete(parts) {
         return Some(*parts);
@@ -24,8 +25,9 @@ pub(crate) fn completed<'a>(likely: &IndexedTable<'a>, parts: &Parts<'a>) -> Opt
 }
 
 // Do the parts of a trial maximise to the language, script and region of the maximised form?
-fn fits(likely: &IndexedTable, trial: &Parts, whole: &Parts) -> bool
-    ensures { let p = parts_is trial.entry.now in HasRoom p → result ≡ fits_parts likely.entry.now.rows.now (parts_is whole.entry.now) p }
+fn fits(likely: &HintedTable, trial: &Parts, whole: &Parts) -> bool
+    ensures { let p = parts_is trial.entry.now in let likely = likely.entry.now in
+        Ready likely.rows.now likely.hints.now p → result ≡ fits_parts likely.rows.now (parts_is whole.entry.now) p }
 {
     let Some(value) = find_row(likely, trial) else {
         return false;
@@ -36,8 +38,9 @@ fn fits(likely: &IndexedTable, trial: &Parts, whole: &Parts) -> bool
 }
 
 // The first trial that maximises to the three, or the three.
-pub(crate) fn minimised<'a>(likely: &IndexedTable<'a>, whole: &Parts<'a>) -> Parts<'a>
-    ensures { let m = parts_is whole.entry.now in HasRoom m → parts_is result ≡ minimal_parts likely.entry.now.rows.now m }
+pub(crate) fn minimised<'a>(likely: &HintedTable<'a>, whole: &Parts<'a>) -> Parts<'a>
+    ensures { let m = parts_is whole.entry.now in let likely = likely.entry.now in
+        Ready likely.rows.now likely.hints.now m → parts_is result ≡ minimal_parts likely.rows.now m }
 {
     let alone = Parts {
         script: b"",

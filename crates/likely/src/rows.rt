@@ -2,12 +2,12 @@
 ghost use Rattle.std.specs.Prelude.{◌≡◌, leb};
 ghost use Rattle.standard.specs.Table.{lookup, rows};
 ghost use Rattle.table.specs.Lines.{value_is};
-ghost use Rattle.likely.specs.Parts.{joined_parts, parts_length, HasRoom, shorter_value, row_value};
+ghost use Rattle.likely.specs.Parts.{joined_parts, parts_length, Ready, shorter_value, row_value};
 ghost use Rattle.likely.specs.Lent.{parts_is};
 
 use crate::parts::Parts;
 use byte_string::put;
-use table::hints::IndexedTable;
+use table::hints::HintedTable;
 
 // Have the parts room in a key? All keys of a table that passed the check have.
 fn has_room(parts: &Parts) -> bool
@@ -21,8 +21,9 @@ fn has_room(parts: &Parts) -> bool
 }
 
 // The value of the row whose key is the parts, one after the other, as a part of the lent table.
-fn find<'a>(likely: &IndexedTable<'a>, parts: &Parts) -> Option<&'a [u8]>
-    ensures { let p = parts_is parts.now in HasRoom p → value_is result ≡ lookup (rows likely.entry.now.rows.now) (joined_parts p) }
+fn find<'a>(likely: &HintedTable<'a>, parts: &Parts) -> Option<&'a [u8]>
+    ensures { let p = parts_is parts.now in let likely = likely.entry.now in
+        Ready likely.rows.now likely.hints.now p → value_is result ≡ lookup (rows likely.rows.now) (joined_parts p) }
 {
     if !has_room(parts) {
         return None;
@@ -35,8 +36,9 @@ fn find<'a>(likely: &IndexedTable<'a>, parts: &Parts) -> Option<&'a [u8]>
 }
 
 // Where language-script-region has no row: language-script, language-region, language.
-fn find_shorter<'a>(likely: &IndexedTable<'a>, parts: &Parts) -> Option<&'a [u8]>
-    ensures { let p = parts_is parts.now in HasRoom p → value_is result ≡ shorter_value likely.entry.now.rows.now p }
+fn find_shorter<'a>(likely: &HintedTable<'a>, parts: &Parts) -> Option<&'a [u8]>
+    ensures { let p = parts_is parts.now in let likely = likely.entry.now in
+        Ready likely.rows.now likely.hints.now p → value_is result ≡ shorter_value likely.rows.now p }
 {
     let by_script = Parts {
         region: b"",
@@ -62,8 +64,9 @@ fn find_shorter<'a>(likely: &IndexedTable<'a>, parts: &Parts) -> Option<&'a [u8]
 
 // The value of the first row for the parts, as a part of the lent table. Where script or region is missing, the key of
 // the language alone is all that is left to try.
-pub(crate) fn find_row<'a>(likely: &IndexedTable<'a>, parts: &Parts) -> Option<&'a [u8]>
-    ensures { let p = parts_is parts.now in HasRoom p → value_is result ≡ row_value likely.entry.now.rows.now p }
+pub(crate) fn find_row<'a>(likely: &HintedTable<'a>, parts: &Parts) -> Option<&'a [u8]>
+    ensures { let p = parts_is parts.now in let likely = likely.entry.now in
+        Ready likely.rows.now likely.hints.now p → value_is result ≡ row_value likely.rows.now p }
 {
     if let Some(value) = find(likely, parts) {
         return Some(value);

@@ -21,7 +21,7 @@ use Rattle.standard.specs.Make.{operate, identifier, print_line, chain_of, liste
 use Rattle.standard.proofs.Lines.{Plain}
 use Rattle.standard.proofs.Whole.{same-canonical, narrow-parents}
 use Rattle.canonical.specs.declared.form.Form.{Form}
-use Rattle.std.specs.Prelude.{Result, Err, Option as Maybe}
+use Rattle.std.specs.Prelude.{Result, Err}
 use Rattle.canonical.specs.declared.form.NoForm.{NoForm}
 use Rattle.subtag.specs.Sections.{led}
 use Rattle.canonical.specs.Form.{refusal as refused_as, form_of, formed, canonical_of, no_form_is, outcome_of, outcome}
@@ -144,7 +144,7 @@ module _ (A P x : Bytes) (f : Form) (buf : Bytes) (w : Canonicalised A x f buf) 
     unfolding chain_from chain_made
     chain-makes = rw (w.reads, canonicalises)
 
-    pub chain-answer : (r : Maybe Listed) (out out' : Bytes) → Lists 0 out (chain_text P (f.count + 10) f.count (take f.variants buf)) r out'
+    pub chain-answer : (r : Result Listed Listed) (out out' : Bytes) → Lists 0 out (chain_text P (f.count + 10) f.count (take f.variants buf)) r out'
         → given_is (listed_is r) out' ≡ given (chain_from T (read x)) out
     unfolding given_is answer_of listed_is given listed listed_of out_after
     chain-answer r out out' h =

@@ -28,10 +28,11 @@ use Rattle.standard.proofs.Round.{Shaped, Printable, length-print}
 use Rattle.standard.proofs.Closed.{fill-shaped, strip-shaped, core-printable}
 use Rattle.standard.proofs.Table.{Passed, passed, good-tables, shaped-tables}
 use Rattle.standard.proofs.Whole.{same-canonical, narrow-likely}
+use Rattle.table.specs.Hints.{Indexed}
 use Rattle.canonical.specs.declared.form.Form.{Form}
 use Rattle.canonical.specs.Form.{refusal as refused_as, form_of, formed, canonical_of, no_form_is, outcome_of, outcome}
 use Rattle.likely.specs.Parts.{led_part, Parts, parts_of, joined_parts, fill_parts, HasRoom}
-use Rattle.likely.specs.Forms.{given_by, bytes_of, made_parts, RoomFor}
+use Rattle.likely.specs.Forms.{given_by, bytes_of, made_parts, RoomFor, ReadyFor}
 use Rattle.operations.specs.Both.{operation_of}
 use Rattle.operations.specs.Slices.{Slices}
 use Rattle.likely.proofs.Laws.{known-parts, map_parts, fill-parts}
@@ -145,10 +146,17 @@ module _ (A L : Bytes) (pass : check to_maximise A L [] ≡ none) (x : Bytes) (f
   unfolding parts_of bytes_of joined_parts
   cuts = slices buf _ _ _ _ f.language f.script f.region f.len sizes.language sizes.script sizes.region sizes.len (w.bytes ∙ print-rest c)
 
-pub by-slices : (b : Bool) (L : Bytes) (p q : Parts) (rest d : Bytes) (G : Given) (out : Bytes) → q ≡ p → d ≡ rest
-    → (RoomFor L q → G ≡ given (made_parts b L d q) out) → RoomFor L p → G ≡ given (made_parts b L rest p) out
-by-slices b L p q rest d G out e ed h k =
-    h (subst (RoomFor L) (sym e) k) ∙ ap₂ (λ (x : Bytes) (q : Parts). given (made_parts b L x q) out) ed e
+pub by-slices : (b : Bool) (L hints : Bytes) (p q : Parts) (rest d : Bytes) (G : Given) (out : Bytes) → q ≡ p → d ≡ rest
+    → (ReadyFor L hints q → G ≡ given (made_parts b L d q) out) → ReadyFor L hints p → G ≡ given (made_parts b L rest p) out
+by-slices b L hints p q rest d G out e ed h k =
+    h (subst (ReadyFor L hints) (sym e) k) ∙ ap₂ (λ (x : Bytes) (q : Parts). given (made_parts b L x q) out) ed e
+
+-- what holds of a table with any hints, of one whose rows ascend with its hints
+pub by_indexed : (f : Form) (buf : Bytes) (b : Bool) (o : Result ℕ NotMade) (out out' : Bytes) (L' hints' L hints : Bytes) → L' ≡ L → hints' ≡ hints → Indexed L hints
+    → ((p : Parts) → (rest : Bytes) → Slices buf p.language p.script p.region rest f.language f.script f.region f.len → ReadyFor L' hints' p → given_by o out' ≡ given (made_parts b L' rest p) out)
+    → (p : Parts) → (rest : Bytes) → Slices buf p.language p.script p.region rest f.language f.script f.region f.len → RoomFor L p → given_by o out' ≡ given (made_parts b L rest p) out
+by_indexed f buf b o out out' L' hints' L hints e g i h p rest s k =
+    h p rest s (rw (e, g) (record { indexed = i; room = k })) ∙ ap (λ (x : Bytes). given (made_parts b x rest p) out) e
 
 -- A refusal of canonicalising stands.
 pub refused-made : (A L x : Bytes) (b : Bool) (n p : ℕ) → outcome A x ≡ refused_as n p → make (tables_of A L []) (operation_of b) x ≡ refusal n p 0

@@ -1,5 +1,5 @@
 -- The tables that a chain goes by, and how a listing of parents is answered. Assumes nothing.
-use Rattle.std.specs.Prelude.{◌≡◌, [], ◌≤◌, length, Option, Some, None, Result, Ok, Err}
+use Rattle.std.specs.Prelude.{◌≡◌, [], ◌≤◌, length, Result, Ok, Err}
 use Rattle.std.proofs.Math.Option.{none}
 use Rattle.standard.specs.Delivery.{Bytes}
 use Rattle.standard.specs.Table.{check, to_chain}
@@ -18,6 +18,6 @@ pub record TestedChain (A P : Bytes) : Type 0 where
   pub small : length P ≤ 32768
 
 -- a listing that fits, or that the output is too short
-unfoldable pub listed_is : Option Listed → Result Done Refusal
-listed_is (Some l) = Ok (record { len = l.end; steps = l.steps })
-listed_is None = Err Short
+unfoldable pub listed_is : Result Listed Listed → Result Done Refusal
+listed_is (Ok l) = Ok (record { len = l.end; steps = l.steps })
+listed_is (Err l) = Err Short

@@ -23,6 +23,9 @@ pub fn canonicalise_tested(
         given_is result out.exit.now ≡ given made out.entry.now }
 {
     let mut buf = buffer();
-    let form = canonical_form(id, aliases, &mut buf)?;
+    let made = canonical_form(id, aliases, &mut buf);
+    let Ok(form) = made else {
+        return Err(Refusal::from(made.unwrap_err()));
+    };
     deliver(&buf[..form.len], out)
 }

@@ -17,14 +17,14 @@ use canonical::form::{Form, canonical_form};
 use parents::lines::{Listed, list};
 use table::hints::IndexedTable;
 
-// Lists the canonical form in buf without its extensions, and its parents, if that fits.
+// Lists the canonical form in buf without its extensions, and its parents, if that fits; where it would end, if not.
 fn list_form<'a>(
     buf: &'a [u8],
     f: Form,
     parents: &'a [u8],
     root: &'a [u8],
     out: &mut [u8],
-) -> Option<Listed>
+) -> Result<Listed, Listed>
     requires { (f.variants ≤ length buf.now) × (length buf.now ≤ 512) × (f.count ≤ 255) × (length parents.now ≤ 32768) × (root.now ≡ und) }
     ensures { let out' = out.exit.now in let parents = parents.entry.now in let out = out.entry.now in let buf = buf.entry.now in
         (Sorted parents → Lists 0 out (chain_text parents (f.count + 10) f.count (take f.variants buf)) result out') }
@@ -52,8 +52,13 @@ pub fn chain_tested(
         given_is result out.exit.now ≡ given (chain_from tables (read id.entry.now)) out.entry.now }
 {
     let mut buf = buffer();
-    let form = canonical_form(id, aliases, &mut buf)?;
-    let listed = list_form(&buf, form, parents, b"und", out).ok_or(Refusal::Short)?;
+    let made = canonical_form(id, aliases, &mut buf);
+    let Ok(form) = made else {
+        return Err(Refusal::from(made.unwrap_err()));
+    };
+    let Ok(listed) = list_form(&buf, form, parents, b"und", out) else {
+        return Err(Refusal::Short);
+    };
     Ok(Done {
         len: listed.end,
         steps: listed.steps,

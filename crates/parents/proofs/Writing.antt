@@ -5,11 +5,11 @@ use mathlib.Core.List.{List, [], ◌∷◌, ◌++◌, append_assoc, reverse}
 use mathlib.Core.Option.{none, some}
 use Prim.Native.Nat.{ℕ, zero, suc, ◌+◌, ◌-◌, ◌≤◌, ◌<◌, zero-le}
 use native.Mathlib.Omega.{arith}
-use borrow.Author.Tests.{le-leb, lt-leb, lt-ltb, le-ltb, eq-eqb, ne_eqb, leb-true}
+use borrow.Author.Tests.{le-leb, lt-leb, lt-ltb, le-ltb, eq-eqb, ne_eqb, leb-true, leb-false}
 use lib.Dec.{leb, ltb}
 use lib.ListN.{length, get_or, take, drop, set, length-append, length-drop}
 use lib.Seq.{sets, sets-eq, length-sets, length-take-le, take-append-le, take-take, drop-append_seam}
-use Rattle.std.specs.Prelude.{Option, Some, None}
+use Rattle.std.specs.Prelude.{Result, Ok, Err}
 use Rattle.std.specs.List.{AllWithin, HoldsAt}
 use Rattle.std.proofs.lemmas.List.{get_or-reverse, length-reverse}
 use Rattle.standard.specs.Tag.{same}
@@ -102,11 +102,11 @@ unfolding listing
 line-length x = length-append x (10 ∷ [])
 
 -- one line alone
-pub record One (at : ℕ) (out : Bytes) (x : Bytes) (r : Option Listed) (out' : Bytes) : Type 0 where
+pub record One (at : ℕ) (out : Bytes) (x : Bytes) (r : Result Listed Listed) (out' : Bytes) : Type 0 where
   pub listed : r ≡ listed_of at out (x ∷ [])
   pub written : out' ≡ out_after at out (x ∷ [])
 
-pub one-short : (at : ℕ) (out x : Bytes) → length out < at + length x + 1 → One at out x None out
+pub one-short : (at : ℕ) (out x : Bytes) → length out < at + length x + 1 → One at out x (Err (record { end = at + length x + 1; steps = 0 })) out
 unfolding listed_of out_after
 one-short at out x h =
     let n = line-length x in
@@ -114,7 +114,7 @@ one-short at out x h =
     let f : leb (at + length x + 1) (length out) ≡ false = lt-leb (at + length x + 1) (length out) h in
     record { listed = rw (e, f); written = rw (e, f) }
 
-pub one-fits : (at : ℕ) (out x out' : Bytes) → at + length x + 1 ≤ length out → out' ≡ sets out at (x ++ (10 ∷ [])) → One at out x (Some (record { end = at + length x + 1; steps = 0 })) out'
+pub one-fits : (at : ℕ) (out x out' : Bytes) → at + length x + 1 ≤ length out → out' ≡ sets out at (x ++ (10 ∷ [])) → One at out x (Ok (record { end = at + length x + 1; steps = 0 })) out'
 unfolding listed_of out_after listing
 one-fits at out x out' h w =
     let n = line-length x in
@@ -213,7 +213,7 @@ unfolding listing
 line-in-front x ls = sym (append_assoc x (10 ∷ []) (listing ls))
 
 -- a line in front of others that are listed behind it
-pub lists-more : (at next : ℕ) (out out₁ out₂ x : Bytes) (ls : List Bytes) (rest : Option Listed) → next ≡ at + length x + 1 → 1 ≤ length ls
+pub lists-more : (at next : ℕ) (out out₁ out₂ x : Bytes) (ls : List Bytes) (rest : Result Listed Listed) → next ≡ at + length x + 1 → 1 ≤ length ls
     → Lists next out ls rest out₁ → out₂ ≡ out_added rest out₁ at x → Lists at out (x ∷ ls) (added rest) out₂
 unfolding listed_of out_after
 lists-more at next out out₁ out₂ x ls rest e k h w =
@@ -222,29 +222,31 @@ lists-more at next out out₁ out₂ x ls rest e k h w =
     let ll : length (listing (x ∷ ls)) ≡ length X + length (listing ls) = ap length (line-in-front x ls) ∙ length-append X (listing ls) in
     let n : at + length (listing (x ∷ ls)) ≡ next + length (listing ls) = omega arith in
     let s : length ls - 1 + 1 ≡ length (x ∷ ls) - 1 = omega arith in
-    let q : added (cond (leb (next + length (listing ls)) (length out)) (Some (record { end = next + length (listing ls); steps = length ls - 1 })) None)
-    ≡ cond (leb (at + length (listing (x ∷ ls))) (length out)) (Some (record { end = at + length (listing (x ∷ ls)); steps = length (x ∷ ls) - 1 })) None
+    let q : added (fitting (next + length (listing ls)) (length ls - 1) (leb (next + length (listing ls)) (length out)))
+    ≡ fitting (at + length (listing (x ∷ ls))) (length (x ∷ ls) - 1) (leb (at + length (listing (x ∷ ls))) (length out))
     = rw n (ends s (leb (next + length (listing ls)) (length out))) in
     let z : added rest ≡ added (listed_of next out ls) = ap added h.listed in
     record { listed = z ∙ q; written = w ∙ go n lx (leb (next + length (listing ls)) (length out)) refl }
   where
-    ends : length ls - 1 + 1 ≡ length (x ∷ ls) - 1 → (b : Bool) → added (cond b (Some (record { end = next + length (listing ls); steps = length ls - 1 })) None)
-        ≡ cond b (Some (record { end = next + length (listing ls); steps = length (x ∷ ls) - 1 })) None
-    ends s true = ap (λ (m : ℕ). Some (record { end = next + length (listing ls); steps = m })) s
-    ends s false = refl
+    fitting : ℕ → ℕ → Bool → Result Listed Listed
+    fitting e s b = cond b (Ok (record { end = e; steps = s })) (Err (record { end = e; steps = s }))
+
+    ends : length ls - 1 + 1 ≡ length (x ∷ ls) - 1 → (b : Bool) → added (fitting (next + length (listing ls)) (length ls - 1) b) ≡ fitting (next + length (listing ls)) (length (x ∷ ls) - 1) b
+    ends s true = ap (λ (m : ℕ). Ok (record { end = next + length (listing ls); steps = m })) s
+    ends s false = ap (λ (m : ℕ). Err (record { end = next + length (listing ls); steps = m })) s
 
     go : at + length (listing (x ∷ ls)) ≡ next + length (listing ls) → length (x ++ (10 ∷ [])) ≡ length x + 1
         → (b : Bool) → leb (next + length (listing ls)) (length out) ≡ b → out_added rest out₁ at x ≡ out_after at out (x ∷ ls)
     go n lx false f =
         let o : out₁ ≡ out = h.written ∙ rw f in
-        let r : rest ≡ None = h.listed ∙ rw f in
-        ap (λ (q : Option Listed). out_added q out₁ at x) r ∙ rw (n, f) o
+        let r : rest ≡ Err (record { end = next + length (listing ls); steps = length ls - 1 }) = h.listed ∙ rw f in
+        ap (λ (q : Result Listed Listed). out_added q out₁ at x) r ∙ rw (n, f) o
     go n lx true f =
         let o : out₁ ≡ sets out next (listing ls) = h.written ∙ rw f in
         let b : next + length (listing ls) ≤ length out = leb-true _ _ f in
         let m : next ≡ at + length (x ++ (10 ∷ [])) = omega arith in
-        let r : rest ≡ Some (record { end = next + length (listing ls); steps = length ls - 1 }) = h.listed ∙ rw f in
-        ap (λ (q : Option Listed). out_added q out₁ at x) r
+        let r : rest ≡ Ok (record { end = next + length (listing ls); steps = length ls - 1 }) = h.listed ∙ rw f in
+        ap (λ (q : Result Listed Listed). out_added q out₁ at x) r
         ∙ rw (n, f)
         (ap (λ (q : Bytes). sets q at (x ++ (10 ∷ []))) (o ∙ ap (λ (j : ℕ). sets out j (listing ls)) m)
         ∙ (sets-before out (x ++ (10 ∷ [])) (listing ls) at (omega arith) ∙ ap (sets out at) (sym (line-in-front x ls))))
@@ -257,32 +259,36 @@ length-after at out ls = go (leb (at + length (listing ls)) (length out))
     go true = length-sets out at (listing ls)
     go false = refl
 
-pub bounded-one : (allowed at : ℕ) (x out : Bytes) (r : Option Listed) (out' : Bytes) → r ≡ listed_of at out (x ∷ []) → out' ≡ out_after at out (x ∷ []) → Bounded allowed at x out r out'
+pub bounded-one : (allowed at : ℕ) (x out : Bytes) (r : Result Listed Listed) (out' : Bytes) → r ≡ listed_of at out (x ∷ []) → out' ≡ out_after at out (x ∷ []) → Bounded allowed at x out r out'
 unfolding listed_of
 bounded-one allowed at x out r out' e w = record { behind = rw e (go (leb (at + length (listing (x ∷ []))) (length out)) refl); same = ap length w ∙ length-after at out (x ∷ []) }
   where
-    go : (b : Bool) → leb (at + length (listing (x ∷ []))) (length out) ≡ b → Behind allowed at x out (cond b (Some (record { end = at + length (listing (x ∷ [])); steps = 1 - 1 })) None)
+    go : (b : Bool) → leb (at + length (listing (x ∷ []))) (length out) ≡ b
+        → Behind allowed at x out (cond b (Ok (record { end = at + length (listing (x ∷ [])); steps = 1 - 1 })) (Err (record { end = at + length (listing (x ∷ [])); steps = 1 - 1 })))
     go true f = let n = line-length x in let k = leb-true _ _ f in (omega arith, omega arith, k)
-    go false f = tt
+    go false f = let n = line-length x in let k = leb-false _ _ f in (omega arith, omega arith, k)
 
-pub bounded_none : (allowed at next : ℕ) (x p out out₁ : Bytes) → Bounded (allowed - 1) next p out None out₁ → Bounded allowed at x out None out₁
-bounded_none allowed at next x p out out₁ h = record { behind = tt; same = h.same }
+few_more : (n s : ℕ) → (n ≡ 0 → ⊥) → s ≤ n - 1 → s + 1 ≤ n
+few_more zero s y f = absurd (y refl)
+few_more (suc n) s y f = omega arith
+
+pub bounded-short : (allowed at next : ℕ) (x p out : Bytes) (rest : Listed) (out₁ : Bytes) → (allowed ≡ 0 → ⊥) → next ≡ at + length x + 1
+    → Bounded (allowed - 1) next p out (Err rest) out₁ → Bounded allowed at x out (added (Err rest)) out₁
+bounded-short allowed at next x p out rest out₁ z e h =
+    let b = h.behind in
+    record { behind = (few_more allowed rest.steps z b.0, omega (arith, b.1), b.2); same = h.same }
 
 pub bounded-more : (allowed at next : ℕ) (x p out : Bytes) (rest : Listed) (out₁ out₂ : Bytes) → (allowed ≡ 0 → ⊥) → next ≡ at + length x + 1
-    → Bounded (allowed - 1) next p out (Some rest) out₁ → out₂ ≡ sets out₁ at (x ++ (10 ∷ [])) → Bounded allowed at x out (added (Some rest)) out₂
+    → Bounded (allowed - 1) next p out (Ok rest) out₁ → out₂ ≡ sets out₁ at (x ++ (10 ∷ [])) → Bounded allowed at x out (added (Ok rest)) out₂
 bounded-more allowed at next x p out rest out₁ out₂ z e h w =
     let b = h.behind in
-    record { behind = (go allowed z b.0, omega (arith, b.1), b.2); same = ap length w ∙ length-sets out₁ at (x ++ (10 ∷ [])) ∙ h.same }
-  where
-    go : (n : ℕ) → (n ≡ 0 → ⊥) → rest.steps ≤ n - 1 → rest.steps + 1 ≤ n
-    go zero y f = absurd (y refl)
-    go (suc n) y f = omega arith
+    record { behind = (few_more allowed rest.steps z b.0, omega (arith, b.1), b.2); same = ap length w ∙ length-sets out₁ at (x ++ (10 ∷ [])) ∙ h.same }
 
 -- where the rest fits, so does the line in front of it
-pub front_fits : (allowed at next : ℕ) (x p out : Bytes) (rest : Listed) (out₁ : Bytes) → next ≡ at + length x + 1 → Bounded allowed next p out (Some rest) out₁ → at + length x < length out₁
+pub front_fits : (allowed at next : ℕ) (x p out : Bytes) (rest : Listed) (out₁ : Bytes) → next ≡ at + length x + 1 → Bounded allowed next p out (Ok rest) out₁ → at + length x < length out₁
 front_fits allowed at next x p out rest out₁ e h = let b = h.behind in omega (arith, b.1, b.2, h.same)
 
-pub lists-as : {at : ℕ} {out : Bytes} {ls ms : List Bytes} {r : Option Listed} {out' : Bytes} → ls ≡ ms → Lists at out ms r out' → Lists at out ls r out'
+pub lists-as : {at : ℕ} {out : Bytes} {ls ms : List Bytes} {r : Result Listed Listed} {out' : Bytes} → ls ≡ ms → Lists at out ms r out' → Lists at out ls r out'
 lists-as e h = rw e h
 
 pub cut-le : (k : ℕ) (x : Bytes) → length x ≤ 32768 → length (take k x) ≤ 32768
@@ -291,8 +297,11 @@ cut-le k x h = let t = take-le k x in omega arith
 pub root-le : (y : Bytes) → y ≡ und → length y ≤ 32768
 root-le y e = rw e (omega arith)
 
-pub rest-lists : {at : ℕ} {out : Bytes} {r s : Option Listed} {out' : Bytes} (P : Bytes) (n v w : ℕ) (p q : Bytes) → Lists at out (chain_text P n v p) r out' → v ≡ w → p ≡ q → r ≡ s → Lists at out (chain_text P n w q) s out'
+pub rest-lists : {at : ℕ} {out : Bytes} {r s : Result Listed Listed} {out' : Bytes} (P : Bytes) (n v w : ℕ) (p q : Bytes) → Lists at out (chain_text P n v p) r out' → v ≡ w → p ≡ q → r ≡ s → Lists at out (chain_text P n w q) s out'
 rest-lists P n v w p q h e f g = rw (← e, ← f, ← g) h
 
-pub bounded-as : {allowed at : ℕ} {x out out' : Bytes} {r s : Option Listed} → r ≡ s → Bounded allowed at x out r out' → Bounded allowed at x out s out'
+pub bounded-as : {allowed at : ℕ} {x out out' : Bytes} {r s : Result Listed Listed} → r ≡ s → Bounded allowed at x out r out' → Bounded allowed at x out s out'
 bounded-as e h = rw (← e) h
+
+pub lists-told : {at : ℕ} {out : Bytes} {ls : List Bytes} {r s : Result Listed Listed} {out' : Bytes} → r ≡ s → Lists at out ls r out' → Lists at out ls s out'
+lists-told e h = rw (← e) h

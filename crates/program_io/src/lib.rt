@@ -131,21 +131,31 @@ pub fn load_table(
 {
     match load(rt, name, buffer) {
         Ok(len) => Some(len),
-        Err(Unloaded::Missing(cause)) => {
-            say_failed(
-                stderr,
-                program,
-                name.as_bytes(),
-                b" counts as zero bytes",
-                cause,
-            );
-            Some(0)
-        }
-        Err(Unloaded::Failed(cause)) => {
-            say_failed(stderr, program, name.as_bytes(), b"", cause);
-            None
-        }
+        Err(Unloaded::Missing(cause)) => missing(stderr, program, name, cause),
+        Err(Unloaded::Failed(cause)) => unread(stderr, program, name, cause),
     }
+}
+
+// A table of zero bytes, and a line that says so.
+fn missing(stderr: Stderr, program: &[u8], name: &str, cause: i32) -> Option<usize>
+    ensures { result ≡ Some 0 }
+{
+    say_failed(
+        stderr,
+        program,
+        name.as_bytes(),
+        b" counts as zero bytes",
+        cause,
+    );
+    Some(0)
+}
+
+// No table, and a line that says so.
+fn unread(stderr: Stderr, program: &[u8], name: &str, cause: i32) -> Option<usize>
+    ensures { result ≡ None }
+{
+    say_failed(stderr, program, name.as_bytes(), b"", cause);
+    None
 }
 
 // Prints the line of the tables' check: `table`, number, table, place.

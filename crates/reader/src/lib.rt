@@ -79,6 +79,27 @@ pub fn fault_of(r: Refusal) -> Fault
     Fault { number, place }
 }
 
+impl Refusal {
+    // Number, place and table as documents 01 and 02 give them: no table is at fault.
+    pub fn number(self) -> u8
+        ensures { result ≡ (fault_is self).number }
+    {
+        fault_of(self).number
+    }
+
+    pub fn place(self) -> usize
+        ensures { result ≡ (fault_is self).place }
+    {
+        fault_of(self).place
+    }
+
+    pub fn table(self) -> u8
+        ensures { result ≡ 0 }
+    {
+        0
+    }
+}
+
 // Nothing is read yet: a script first leaves the language empty.
 #[tactic(auto, unfolding(crate::specs::Walk::unread))]
 fn unread() -> Parts

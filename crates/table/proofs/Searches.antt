@@ -21,13 +21,7 @@ use Rattle.table.specs.Lines.{lines, starts, no_row, row_at, row_in}
 use Rattle.table.specs.Search.{below, ascend_from, ascend, Opens, Sorted, row_from, not_below, LineStart, Landed, Span}
 use Rattle.table.proofs.Lines.{located-cons, lines_at, row-start, row-hit}
 use Rattle.byte_string.proofs.Ends.{ends, end-miss}
-use Rattle.std.specs.Prelude.{min, nat_lt}
-use Rattle.std.specs.declared.cmp.Ordering.{Ordering}
-use Rattle.std.specs.declared.cmp.Ordering.TheVariants.{Less, Equal, Greater}
-use Rattle.std.specs.Ordering.{MatchOrdering, nat_cmp, ordering_then}
-use Rattle.std.specs.Cmp.Lexicographic.{slice_cmp}
 use Rattle.std.specs.List.{AllWithin, HoldsAt}
-use Rattle.std.proofs.lemmas.Cmp.{ranked}
 use Rattle.std.proofs.lemmas.List.{get_or-reverse, length-reverse, get_or-take, get_or-drop}
 
 -- two numbers, compared
@@ -220,42 +214,42 @@ cut-size [] (suc lo) (suc m) g h o = absurd (not-suc-le-zero h)
 cut-size (x ∷ t) (suc lo) (suc zero) g h o = rw suc-sub-suc (cut-size t lo zero (le_of_suc-le-suc g) zero-le refl)
 cut-size (x ∷ t) (suc lo) (suc (suc m)) g h o = rw suc-sub-suc (cut-size t lo (suc m) (le_of_suc-le-suc g) (le_of_suc-le-suc h) o)
 
--- a line against a key and a tab: first against the key, as std's slices have it
-abbrev pub by_front : Ordering → Bool → Bool
-by_front Less b = true
-by_front Equal b = b
-by_front Greater b = false
+-- a line against a key and a tab, from i on
+unfoldable pub below_from : List ℕ → List ℕ → ℕ → Bool
+below_from l key i = below (drop i l) (drop i key ++ (9 ∷ []))
 
-pub below-front : (key l : List ℕ) → below l (key ++ (9 ∷ [])) ≡ by_front (slice_cmp nat_cmp (take (length key) l) key) (below (drop (length key) l) (9 ∷ []))
-unfolding below
-below-front [] l = refl
-below-front (x ∷ key) [] = refl
-below-front (x ∷ key) (y ∷ l) = go (nat_cmp y x) (ranked y x (nat_cmp y x) refl) (below-front key l)
-  where
-    go : (o : Ordering) → MatchOrdering o (y < x) (y ≡ x) (x < y)
-        → below l (key ++ (9 ∷ [])) ≡ by_front (slice_cmp nat_cmp (take (length key) l) key) (below (drop (length key) l) (9 ∷ []))
-        → below (y ∷ l) (x ∷ (key ++ (9 ∷ []))) ≡ by_front (ordering_then o (slice_cmp nat_cmp (take (length key) l) key)) (below (drop (length key) l) (9 ∷ []))
-    go Less h i = below-lt y x l (key ++ (9 ∷ [])) h
-    go Equal h i = below_eq y x l (key ++ (9 ∷ [])) h ∙ i
-    go Greater h i = below-gt y x l (key ++ (9 ∷ [])) h
+pub below-start : (l key : List ℕ) → below l (key ++ (9 ∷ [])) ≡ below_from l key 0
+unfolding below_from
+below-start l key = refl
 
--- the answer by the order of the line's front and the key
-pub below-by : (key l : List ℕ) (n : ℕ) (o : Ordering) → n ≡ min (length key) (length l) → o ≡ slice_cmp nat_cmp (take n l) key
-    → below l (key ++ (9 ∷ [])) ≡ by_front o (below (drop (length key) l) (9 ∷ []))
-below-by key l n o e f = below-front key l ∙ ap (λ (q : Ordering). by_front q (below (drop (length key) l) (9 ∷ []))) (sym (f ∙ ap (λ (q : List ℕ). slice_cmp nat_cmp q key) (same (le-or-lt (length key) (length l)))))
-  where
-    same : (length key ≤ length l) ⊎ (length l < length key) → take n l ≡ take (length key) l
-    same (inl h) = let z : n ≡ length key = omega arith in rw z
-    same (inr h) = take_all n l (omega arith) ∙ sym (take_all (length key) l (omega arith))
+pub below-short : (l key : List ℕ) (i : ℕ) → i < length key → length l ≤ i → below_from l key i ≡ true
+unfolding below_from below
+below-short l key i h k = rw (drop-cons key i 0 h, drop_of_length-le l k)
 
--- what is left of the line against the tab
-pub below-none : (key l : List ℕ) → length l ≤ length key → below (drop (length key) l) (9 ∷ []) ≡ true
-unfolding below
-below-none key l h = rw (drop_of_length-le l h)
+below_at : (l key : List ℕ) (i : ℕ) → i < length key → i < length l
+    → below_from l key i ≡ below (get_or l i 0 ∷ drop (suc i) l) (get_or key i 0 ∷ (drop (suc i) key ++ (9 ∷ [])))
+unfolding below_from
+below_at l key i h k = rw (drop-cons key i 0 h, drop-cons l i 0 k)
 
-pub below-tab : (key l : List ℕ) → length key < length l → below (drop (length key) l) (9 ∷ []) ≡ nat_lt (get_or l (length key) 0) 9
-unfolding below
-below-tab key l h = rw (drop-cons l (length key) 0 h) (go (nat_lt (get_or l (length key) 0) 9) (ltb 9 (get_or l (length key) 0)))
+pub below_less : (l key : List ℕ) (i : ℕ) → i < length key → i < length l → get_or l i 0 < get_or key i 0 → below_from l key i ≡ true
+below_less l key i h k e = below_at l key i h k ∙ below-lt _ _ _ _ e
+
+pub below_more : (l key : List ℕ) (i : ℕ) → i < length key → i < length l → get_or key i 0 < get_or l i 0 → below_from l key i ≡ false
+below_more l key i h k e = below_at l key i h k ∙ below-gt _ _ _ _ e
+
+pub below-same : (l key : List ℕ) (i : ℕ) → i < length key → i < length l → get_or key i 0 ≤ get_or l i 0 → get_or l i 0 ≤ get_or key i 0
+    → below_from l key i ≡ below_from l key (i + 1)
+unfolding below_from
+below-same l key i h k e f = below_at l key i h k ∙ rw add-one (below_eq _ _ _ _ (le_antisymm f e))
+
+pub below_end : (l key : List ℕ) (i : ℕ) → length key ≤ i → length l ≤ i → below_from l key i ≡ true
+unfolding below_from below
+below_end l key i h k = rw (drop_of_length-le key h, drop_of_length-le l k)
+
+pub below-tab : (l key : List ℕ) (i : ℕ) → length key ≤ i → i ≤ length key → length key < length l → below_from l key i ≡ ltb (get_or l (length key) 0) 9
+unfolding below_from below
+below-tab l key i h g k =
+    rw (le_antisymm g h, drop-length key, drop-cons l (length key) 0 k) (go (ltb (get_or l (length key) 0) 9) (ltb 9 (get_or l (length key) 0)))
   where
     go : (a b : Bool) → cond a true (cond b false false) ≡ a
     go true b = refl

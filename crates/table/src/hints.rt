@@ -10,6 +10,44 @@ use crate::{find_sorted, value_in};
 use byte_string::end_of;
 use std::ops::Range;
 
+// A table with hints, whatever both are.
+#[derive(Clone, Copy)]
+pub struct HintedTable<'a> {
+    pub rows: &'a [u8],
+    pub hints: &'a [u16],
+}
+
+impl<'a> HintedTable<'a> {
+    // As crate::find, where the rows ascend and the hints lead.
+    pub fn find(self, key: &[u8]) -> Option<Range<usize>>
+        ensures { let t = self.entry.rows.now in
+            (Indexed t self.entry.hints.now → found_is result ≡ located t key.now) × InTable t result }
+    {
+        find_by(self.rows, self.hint(slot_from(0, key)), key)
+    }
+
+    // As crate::lookup, where the rows ascend and the hints lead.
+    pub fn lookup(self, key: &[u8]) -> Option<&'a [u8]>
+        ensures { let t = self.entry.rows.now in
+            Indexed t self.entry.hints.now → value_is result ≡ value_if t (located t key.now) }
+    {
+        let value = self.find(key)?;
+        Some(&self.rows[value])
+    }
+
+    // The slot's hint; one that is missing says nothing.
+    pub fn hint(self, slot: usize) -> usize
+        ensures { result ≡ hint_at self.entry.hints.now slot }
+    {
+        let at = place_of(self.hints.len(), slot);
+        if at < self.hints.len() {
+            self.hints[at] as usize
+        } else {
+            65535
+        }
+    }
+}
+
 // A sorted table with its hints.
 #[derive(Clone, Copy)]
 pub struct IndexedTable<'a> {
@@ -31,26 +69,30 @@ impl<'a> IndexedTable<'a> {
     pub fn find(self, key: &[u8]) -> Option<Range<usize>>
         ensures { let t = self.entry.rows.now in (found_is result ≡ located t key.now) × InTable t result }
     {
-        find_by(self.rows, self.hint(slot_from(0, key)), key)
+        self.hinted().find(key)
     }
 
     // As crate::lookup.
     pub fn lookup(self, key: &[u8]) -> Option<&'a [u8]>
         ensures { let t = self.entry.rows.now in value_is result ≡ value_if t (located t key.now) }
     {
-        let value = self.find(key)?;
-        Some(&self.rows[value])
+        self.hinted().lookup(key)
     }
 
     // The slot's hint; one that is missing says nothing.
     pub fn hint(self, slot: usize) -> usize
         ensures { result ≡ hint_at self.entry.hints.now slot }
     {
-        let at = place_of(self.hints.len(), slot);
-        if at < self.hints.len() {
-            self.hints[at] as usize
-        } else {
-            65535
+        self.hinted().hint(slot)
+    }
+
+    // The same table and hints, for a function that takes any.
+    pub fn hinted(self) -> HintedTable<'a>
+        ensures { (result.rows.now ≡ self.entry.rows.now) × (result.hints.now ≡ self.entry.hints.now) }
+    {
+        HintedTable {
+            rows: self.rows,
+            hints: self.hints,
         }
     }
 }

@@ -12,7 +12,6 @@ ghost use Rattle.table.specs.Lines.{starts, found_is, value_is, value_if, row_in
 ghost use Rattle.table.specs.Search.{below, Sorted, LineStart, Landed};
 
 use byte_string::end_of;
-use std::cmp::Ordering;
 use std::ops::Range;
 
 // Does the line begin with the key and a tab?
@@ -67,13 +66,19 @@ pub fn lookup<'a>(t: &'a [u8], key: &[u8]) -> Option<&'a [u8]>
 pub(crate) fn below_row(line: &[u8], key: &[u8]) -> bool
     ensures { result ≡ below line.now (key.now ++ (9 ∷ [])) }
 {
-    let n = key.len();
-    let front = &line[..n.min(line.len())];
-    match front.cmp(key) {
-        Ordering::Less => true,
-        Ordering::Equal => line.len() <= n || line[n] < b'\t',
-        Ordering::Greater => false,
+    // by hand, and not by `cmp` of the two fronts: most lines differ in the first bytes
+    for (i, b) in key.iter().enumerate() {
+        if line.len() <= i {
+            return true;
+        }
+        if line[i] < *b {
+            return true;
+        }
+        if *b < line[i] {
+            return false;
+        }
     }
+    line.len() <= key.len() || line[key.len()] < b'\t'
 }
 
 // The start of the line that `from` is in, or lo where that is later.

@@ -48,6 +48,20 @@ impl Fault {
         }
     }
 
+    // Where it is wrong.
+    pub fn place(self) -> usize
+        ensures { result ≡ self.place }
+    {
+        self.place
+    }
+
+    // The table, by its number.
+    pub fn table(self) -> u8
+        ensures { result ≡ table_of self }
+    {
+        self.table_number()
+    }
+
     // The table's number.
     #[tactic(auto, unfolding(standard::specs::Table::table_number, row_shapes::specs::Rows::kind_is))]
     pub fn table_number(self) -> u8

@@ -15,7 +15,7 @@ ghost use Rattle.table_check.specs.Verdicts.{verdict_is};
 ghost use Rattle.test_api.specs.Codes.{found_code, fault_code};
 
 use std::ops::Range;
-use table::hints::{few, fill_hints, find_by, many, slot_from};
+use table::hints::{HintedTable, few, fill_hints, many};
 use table_check::Fault;
 
 // Bit 0: found; 1 to 31: where the value starts; 32 to 62: its length. All ones where these do not fit.
@@ -34,21 +34,28 @@ pub extern "C" fn probe_sorted(t: &[u8], key: &[u8]) -> u64
     code_found(table::find_sorted(t, key))
 }
 
-// The same by hints, which are made for this one key: few of a small table, as the check has them. The table is any, so
-// it is no IndexedTable.
+// The same by hints, which are made for this one key: few of a small table, as the check has them. The search is the one
+// that an IndexedTable's find and lookup go through; the table is any.
 #[unsafe(no_mangle)]
 pub extern "C" fn probe_hinted(t: &[u8], key: &[u8]) -> u64
     ensures { Sorted t.now → result ≡ found_code (located t.now key.now) }
 {
-    let slot = slot_from(0, key);
     if t.len() <= 2048 {
         let mut hints = few();
         fill_hints(t, &mut hints);
-        code_found(find_by(t, hints[slot % 1024] as usize, key))
+        let table = HintedTable {
+            rows: t,
+            hints: &hints,
+        };
+        code_found(table.find(key))
     } else {
         let mut hints = many();
         fill_hints(t, &mut hints);
-        code_found(find_by(t, hints[slot] as usize, key))
+        let table = HintedTable {
+            rows: t,
+            hints: &hints,
+        };
+        code_found(table.find(key))
     }
 }
 

@@ -8,7 +8,7 @@ ghost use Rattle.table_check.specs.Verdicts.{verdict_is};
 ghost use Rattle.c_api.specs.Packed.{unpacked};
 ghost use Rattle.test_api.specs.Exported.{check_for, made_for};
 
-use c_api::pack;
+use c_api::packed_answer;
 use operations::canonicalise::canonicalise_tested;
 use operations::chain::chain_tested;
 use operations::complete::form_tested;
@@ -45,16 +45,16 @@ fn once(
         unpacked result out' ≡ given (made_for operation aliases other id) out }
 {
     match operation {
-        0 => pack(canonicalise_tested(id, aliases, out)),
+        0 => packed_answer(canonicalise_tested(id, aliases, out)),
         1 => {
             let tables = tested(aliases, indexed(other, other_hints));
-            pack(form_tested(false, id, tables, out))
+            packed_answer(form_tested(false, id, tables, out))
         }
         2 => {
             let tables = tested(aliases, indexed(other, other_hints));
-            pack(form_tested(true, id, tables, out))
+            packed_answer(form_tested(true, id, tables, out))
         }
-        _ => pack(chain_tested(id, aliases, other, out)),
+        _ => packed_answer(chain_tested(id, aliases, other, out)),
     }
 }
 
@@ -95,7 +95,7 @@ pub extern "C" fn probe_repeat(
         unpacked result out' ≡ given (made_for operation aliases other id) out }
 {
     if let Err(fault) = check_for(operation, aliases, other) {
-        return pack(Err(Refusal::Table(fault)));
+        return packed_answer(Err(Refusal::Table(fault)));
     }
     repeated(operation, id, indexed(aliases, &[]), other, &[], out, times)
 }
@@ -115,7 +115,7 @@ pub extern "C" fn probe_repeat_hinted(
         unpacked result out' ≡ given (made_for operation aliases other id) out }
 {
     if let Err(fault) = check_for(operation, aliases, other) {
-        return pack(Err(Refusal::Table(fault)));
+        return packed_answer(Err(Refusal::Table(fault)));
     }
     let mut alias_hints = many();
     fill_hints(aliases, &mut alias_hints);

@@ -6,4 +6,4 @@ use Rattle.c_api.proofs.altazhbey_chain.Goals as goal
 pub returns : goal.returns
 returns c =
     let a = c.args in
-    unpacks _ c.chain.result c.pack.result _ _ (list-small a.aliases.now a.parents.now a.id.now) c.pack.ensures c.chain.ensures
+    unpacks _ c.chain.result c.packed_answer.result _ _ (list-small a.aliases.now a.parents.now a.id.now) c.packed_answer.ensures c.chain.ensures

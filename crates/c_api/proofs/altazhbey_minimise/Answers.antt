@@ -6,4 +6,4 @@ use Rattle.c_api.proofs.altazhbey_minimise.Goals as goal
 pub returns : goal.returns
 returns c =
     let a = c.args in
-    unpacks _ c.minimise.result c.pack.result _ _ (minimise-small a.aliases.now a.likely.now a.id.now) c.pack.ensures c.minimise.ensures
+    unpacks _ c.minimise.result c.packed_answer.result _ _ (minimise-small a.aliases.now a.likely.now a.id.now) c.packed_answer.ensures c.minimise.ensures

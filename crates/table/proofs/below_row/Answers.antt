@@ -1,26 +1,28 @@
 -- `table::below_row` meets its contract. Assumes nothing.
-use mathlib.Core.Path.{◌≡◌, sym, ◌∙◌}
-use mathlib.Core.List.{[], ◌∷◌, ◌++◌}
-use lib.ListN.{length, drop}
+use mathlib.Core.Path.{sym, ◌∙◌}
+use borrow.Author.Rules.{rules}
 use Rattle.std.proofs.lemmas.Bool.Decides.{nat_tests}
 use native.Mathlib.Omega.{arith}
-use Rattle.table.specs.Search.{below}
-use Rattle.table.proofs.Searches.{by_front, below-by, below-none, below-tab}
+use Rattle.table.proofs.Searches.{below-start, below-short, below_less, below_more, below-same, below_end, below-tab}
 use Rattle.table.proofs.below_row.Goals as goal
-use Rattle.table.proofs.below_row.Goals.{After-cmp}
 
--- the order of the line's front and the key decides
-decided : (c : After-cmp) → below c.args.line.now (c.args.key.now ++ (9 ∷ [])) ≡ by_front c.cmp.result (below (drop (length c.args.key.now) c.args.line.now) (9 ∷ []))
-decided c = below-by _ _ _ _ c.min.ensures c.cmp.ensures
+pub loop-i-init : goal.loop-i-init
+loop-i-init c = below-start _ _
 
-pub returns-in-Less : goal.returns-in-Less
-returns-in-Less c = sym (rw c.in-Less.is at (decided (goal.at.returns-in-Less c).After-cmp))
+pub returns-then-line-i : goal.returns-then-line-i
+returns-then-line-i c = sym (c.loop-i.invariant ∙ below-short _ _ _ c.loop-i-test.true (search rules))
 
-pub returns-then-line-n : goal.returns-then-line-n
-returns-then-line-n c = sym (rw c.in-Equal.is at (decided (goal.at.returns-then-line-n c).After-cmp) ∙ below-none _ _ c.if-line-n.true ∙ grind (arith, nat_tests))
+pub returns-then-line-i-2 : goal.returns-then-line-i-2
+returns-then-line-i-2 c = sym (c.loop-i.invariant ∙ below_less _ _ _ c.loop-i-test.true (search rules) c.if-line-i-2.true)
 
-pub returns-else-line-n : goal.returns-else-line-n
-returns-else-line-n c = sym (rw c.in-Equal.is at (decided (goal.at.returns-else-line-n c).After-cmp) ∙ below-tab _ _ c.if-line-n.false)
+pub returns-then-b-line : goal.returns-then-b-line
+returns-then-b-line c = sym (c.loop-i.invariant ∙ below_more _ _ _ c.loop-i-test.true (search rules) c.if-b-line.true)
 
-pub returns-in-Greater : goal.returns-in-Greater
-returns-in-Greater c = sym (rw c.in-Greater.is at (decided (goal.at.returns-in-Greater c).After-cmp))
+pub loop-i-preserved : goal.loop-i-preserved
+loop-i-preserved c = c.loop-i.invariant ∙ below-same _ _ _ c.loop-i-test.true (search rules) (search rules) (search rules)
+
+pub returns-then-line-key : goal.returns-then-line-key
+returns-then-line-key c = sym (c.loop-i.invariant ∙ below_end _ _ _ c.loop-i-test.false (omega arith) ∙ grind (arith, nat_tests))
+
+pub returns-else-line-key : goal.returns-else-line-key
+returns-else-line-key c = sym (c.loop-i.invariant ∙ below-tab _ _ _ c.loop-i-test.false c.loop-i.auto.i-end c.if-line-key.false)

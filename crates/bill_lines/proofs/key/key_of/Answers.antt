@@ -2,6 +2,7 @@
 use mathlib.Core.Path.{sym}
 use native.Mathlib.Omega.{arith}
 use Rattle.operations.proofs.Canonicalised.{Canonicalised, canonicalised, formed-by, fits_by, in_order}
+use Rattle.operations.proofs.CompleteForms.{by_indexed}
 use Rattle.bill_lines.specs.Keys.{key_is}
 use Rattle.bill_lines.proofs.Keying.{refused-key, no_key, made-key}
 use Rattle.bill_lines.proofs.key.key_of.Goals as goal
@@ -28,7 +29,8 @@ pub returns-in_default-from_form : goal.returns-in_default-from_form
 unfolding key_is
 returns-in_default-from_form c =
     let t = c.args.tables in
-    (no_key t.aliases.rows.now t.likely.rows.now t.tested.passes c.args.id.now _ _ (made (goal.at.returns-in_default-from_form c).In-Ok) c.from_form.result c.args.out.now _ c.from_form.ensures c.requires c.in_default-from_form.is, tt)
+    let h = by_indexed c.in-Ok.form _ _ _ _ _ _ _ _ _ c.hinted.ensures.0 c.hinted.ensures.1 t.likely.indexed c.from_form.ensures in
+    (no_key t.aliases.rows.now t.likely.rows.now t.tested.passes c.args.id.now _ _ (made (goal.at.returns-in_default-from_form c).In-Ok) c.from_form.result c.args.out.now _ h c.requires c.in_default-from_form.is, tt)
 
 pub overflow_sub-rest : goal.overflow_sub-rest
 overflow_sub-rest c = (in_order _ _ (made (goal.at.overflow_sub-rest c).In-Ok).ends).2
@@ -36,5 +38,6 @@ overflow_sub-rest c = (in_order _ _ (made (goal.at.overflow_sub-rest c).In-Ok).e
 pub returns : goal.returns
 returns c =
     let t = c.args.tables in
-    let m = made-key t.aliases.rows.now t.likely.rows.now t.tested.passes c.args.id.now _ _ (made (goal.at.returns c).In-Ok) c.from_form.result c.args.out.now _ c.from_form.ensures _ c.requires c.in-Ok-from_form.is in
+    let h = by_indexed c.in-Ok.form _ _ _ _ _ _ _ _ _ c.hinted.ensures.0 c.hinted.ensures.1 t.likely.indexed c.from_form.ensures in
+    let m = made-key t.aliases.rows.now t.likely.rows.now t.tested.passes c.args.id.now _ _ (made (goal.at.returns c).In-Ok) c.from_form.result c.args.out.now _ h _ c.requires c.in-Ok-from_form.is in
     rw c.saturating_sub.ensures m

@@ -14,7 +14,7 @@ canonicalise_tested-requires c =
 pub returns-in-0 : goal.returns-in-0
 returns-in-0 c =
     let a = c.args in
-    once-0 a.operation a.aliases.rows.now a.other.now a.id.now _ _ c.canonicalise_tested.result c.pack.result c.pack.ensures c.requires.0 c.in-0.is c.canonicalise_tested.ensures
+    once-0 a.operation a.aliases.rows.now a.other.now a.id.now _ _ c.canonicalise_tested.result c.packed_answer.result c.packed_answer.ensures c.requires.0 c.in-0.is c.canonicalise_tested.ensures
 
 pub indexed-requires : goal.indexed-requires
 indexed-requires c =
@@ -32,7 +32,7 @@ returns-in-1 c =
     let a = c.args in
     let t = c.tested-tables.ensures in
     let f = rw (t.0, t.1, c.indexed.ensures.0) at c.form_tested.ensures in
-    once-1 a.operation a.aliases.rows.now a.other.now a.id.now _ _ c.form_tested.result c.pack-in-1.result c.pack-in-1.ensures c.requires.0 (λ e. omega arith) c.in-1.is f
+    once-1 a.operation a.aliases.rows.now a.other.now a.id.now _ _ c.form_tested.result c.packed_answer-in-1.result c.packed_answer-in-1.ensures c.requires.0 (λ e. omega arith) c.in-1.is f
 
 pub indexed-requires-in-2 : goal.indexed-requires-in-2
 indexed-requires-in-2 c =
@@ -50,7 +50,7 @@ returns-in-2 c =
     let a = c.args in
     let t = c.tested-tables-in-2.ensures in
     let f = rw (t.0, t.1, c.indexed-in-2.ensures.0) at c.form_tested-in-2.ensures in
-    once-2 a.operation a.aliases.rows.now a.other.now a.id.now _ _ c.form_tested-in-2.result c.pack-in-2.result c.pack-in-2.ensures c.requires.0 (λ e. omega arith) (λ e. omega arith) c.in-2.is f
+    once-2 a.operation a.aliases.rows.now a.other.now a.id.now _ _ c.form_tested-in-2.result c.packed_answer-in-2.result c.packed_answer-in-2.ensures c.requires.0 (λ e. omega arith) (λ e. omega arith) c.in-2.is f
 
 pub chain_tested-requires : goal.chain_tested-requires
 chain_tested-requires c =
@@ -60,4 +60,4 @@ chain_tested-requires c =
 pub returns-in_default : goal.returns-in_default
 returns-in_default c =
     let a = c.args in
-    once-3 a.operation a.aliases.rows.now a.other.now a.id.now _ _ c.chain_tested.result c.pack-in_default.result c.pack-in_default.ensures c.requires.0 (λ e. omega arith) (λ e. omega arith) (λ e. omega arith) c.chain_tested.ensures
+    once-3 a.operation a.aliases.rows.now a.other.now a.id.now _ _ c.chain_tested.result c.packed_answer-in_default.result c.packed_answer-in_default.ensures c.requires.0 (λ e. omega arith) (λ e. omega arith) (λ e. omega arith) c.chain_tested.ensures

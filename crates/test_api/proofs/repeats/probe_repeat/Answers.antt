@@ -7,7 +7,7 @@ use Rattle.test_api.proofs.repeats.probe_repeat.Goals as goal
 pub returns-in-Err : goal.returns-in-Err
 returns-in-Err c =
     let a = c.args in
-    refused-for a.operation a.aliases.now a.other.now a.id.now _ c.check_for.result _ c.pack.result c.in-Err.is c.pack.ensures c.check_for.ensures
+    refused-for a.operation a.aliases.now a.other.now a.id.now _ c.check_for.result _ c.packed_answer.result c.in-Err.is c.packed_answer.ensures c.check_for.ensures
 
 pub indexed-requires : goal.indexed-requires
 indexed-requires c =
